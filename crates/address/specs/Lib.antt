@@ -1,0 +1,3 @@
+pub mod Registers
+pub mod Address
+pub mod Successor

@@ -1,0 +1,43 @@
+-- What the tests of a definition give where the code has tested the same: one set for numbers, one for bools that a call gave too.
+use mathlib.Core.Bool.{Bool, true, false}
+use mathlib.Core.Path.{_≡_, refl, sym, _∙_}
+use Prim.Native.Nat.{ℕ, _≤_}
+use native.Mathlib.Omega.{arith}
+use lib.Dec.{leb}
+use borrow.Author.Tests.{lt-ltb, le-ltb, le-leb, lt-leb, eq-eqb, ne-eqb, leb-true}
+use Rattle.base.specs.Choice.{pick, within}
+
+pub ruleset tests = (lt-ltb, le-ltb, le-leb, lt-leb, eq-eqb, ne-eqb)
+
+pub picked-true {ℓ} : {A : Type ℓ} (b : Bool) (x a y : A) → b ≡ true → x ≡ a → x ≡ pick b a y
+picked-true b x a y h e = rw h e
+
+pub picked-false {ℓ} : {A : Type ℓ} (b : Bool) (x a y : A) → b ≡ false → x ≡ y → x ≡ pick b a y
+picked-false b x a y h e = rw h e
+
+-- a test that a call answered
+pub told-true : (b r : Bool) → r ≡ b → r ≡ true → b ≡ true
+told-true b r e h = sym e ∙ h
+
+pub told-false : (b r : Bool) → r ≡ b → r ≡ false → b ≡ false
+told-false b r e h = sym e ∙ h
+
+pub ruleset picks = (picked-true, picked-false, told-true, told-false, lt-ltb, le-ltb, le-leb, lt-leb, eq-eqb, ne-eqb)
+
+-- false is not true
+pub false≢true : false ≡ true → ⊥
+false≢true q = let z : _≡_ {A = ℕ} 0 1 = cc in omega arith
+
+-- a choice against false is true exactly where both tests are
+pub both-true : (a b : Bool) → pick a b false ≡ true → (a ≡ true) × (b ≡ true)
+both-true true b e = (refl, e)
+both-true false b e = absurd (false≢true e)
+
+-- x within limits is neither below the low nor above the high one
+pub within-low : (low high x : ℕ) → within low high x ≡ true → low ≤ x
+unfolding within
+within-low low high x e = leb-true _ _ (both-true (leb low x) (leb x high) e .0)
+
+pub within-high : (low high x : ℕ) → within low high x ≡ true → x ≤ high
+unfolding within
+within-high low high x e = leb-true _ _ (both-true (leb low x) (leb x high) e .1)

@@ -1,0 +1,2 @@
+pub mod Geometry
+pub mod Translation

@@ -1,0 +1,275 @@
+#!/usr/bin/env python3
+"""Writes the proof files of a crate anew from its recipes.
+
+    tools/prove.py CRATE [FUNCTION ..]      (run at the repository's root)
+
+A function's proof file is mostly mechanical: a declaration for each fact that the check asks (a need), most of them
+answered by `search needs`. What is not mechanical stands in crates/CRATE/proofs/recipes.txt:
+
+    Geometry/initialize                     the function, by its folder under proofs/
+      why       one line, the argument      becomes the file's first line
+      returns*  unfolding initializedOf; search picks depth 9
+      div-whole omega (arith, {capacity} .ensures)
+
+Left is a need, or a pattern that names several; right its answer, which may go on over lines that are indented more.
+  unfolding A B;   the definitions that the answer opens
+  {thing}          the path, at that need, to what a call, a test, a loop or an arm told: `c .before .thing`
+  {path}           `simp` over all that the way to that need told, in the order of the code
+Needs without an answer get `search needs`. For a loop, `Inv-loop` and `μ-loop` are answered too.
+"""
+import fnmatch
+import glob
+import os
+import re
+import subprocess
+import sys
+
+# Where the kit's names come from.
+KIT = {
+    'borrow.Author.Needs': 'needs',
+    'borrow.Author.Tests': 'lt-ltb le-ltb le-leb lt-leb eq-eqb ne-eqb ltb-true ltb-false leb-true leb-false eqb-true eqb-false',
+    'native.Mathlib.Omega': 'arith',
+    'native.Mathlib.Numerals': 'add-one',
+    'native.Mathlib.Nat': 'mul-pos min-eq-left min-eq-right',
+    'mathlib.Core.Path': '_≡_ refl sym ap _∙_',
+    'mathlib.Core.Bool': 'Bool true false',
+    'mathlib.Core.List': 'List [] _∷_ _++_',
+    'Prim.Native.Nat': 'ℕ _+_ _-_ _*_ _/_ _%_ _≤_ _<_',
+    'lib.ListN': 'length getD take drop set replicate length-set length-take length-drop',
+    'lib.Seq': 'paste length-take-le',
+}
+TESTS = '← lt-ltb le-ltb le-leb lt-leb eq-eqb ne-eqb sym ∙'
+
+
+def fail(text):
+    sys.exit(f'prove.py: {text}')
+
+
+def read(path):
+    with open(path, encoding='utf8') as f:
+        return f.read()
+
+
+def recipes_of(crate):
+    """{function: {need or pattern: answer}}, in the file's order."""
+    recipes, function, key = {}, None, None
+    for line in read(f'crates/{crate}/proofs/recipes.txt').splitlines():
+        if not line.strip() or line.startswith('#'):
+            continue
+        if not line.startswith(' '):
+            function = line.strip()
+            recipes[function] = {}
+        elif line.startswith('      '):
+            recipes[function][key] += '\n' + line[2:].rstrip()
+        else:
+            key, answer = line.strip().split(None, 1)
+            recipes[function][key] = answer.strip()
+    return recipes
+
+
+def skeletons(log, crate):
+    """{function: lines} that the check printed for functions without a proof."""
+    found, current = {}, None
+    for line in log.splitlines():
+        m = re.match(rf'help: write \S*crates/{crate}/proofs/(\S+)/Proof\.antt with these lines', line)
+        if m:
+            current = m.group(1)
+            found[current] = []
+        elif current is not None and (line.startswith('    ') or not line.strip()):
+            found[current].append(line[4:])
+        else:
+            current = None
+    return found
+
+
+class Known:
+    """What is known at each need of a function: the chain of records in its Lts.antt."""
+
+    def __init__(self, crate, function):
+        place = f'target/goals/{crate}/Rattle.{crate}.proofs/proofs/{function}/Lts.antt'
+        text = read(place)
+        record = r'pub record (\S+) : Type 0 where\n\s+pub before : (\S+)\n\s+pub (\S+) : \S+·own before'
+        self.records = {m[1]: (m[2], m[3]) for m in re.finditer(record, text)}
+        self.owns = {m[1]: m[2] for m in re.finditer(r'pub record (\S+)·own : Type 0 where\n(.*?)\n\n', text, re.S)}
+        self.needs = {m[1]: m[2] for m in re.finditer(r'Need-(\S+) =\s*\(c : (\S+)\)', text)}
+        self.steps = {m[1]: m[2] for m in re.finditer(r'^ +(s\d+) =(.*?)\n\n', text, re.M | re.S)}
+
+    def chain(self, need):
+        """(thing, path, record) from the need backwards."""
+        record, path, out = self.needs[need], 'c', []
+        while record in self.records:
+            before, thing = self.records[record]
+            out.append((thing, f'{path} .{thing}', record))
+            path, record = path + ' .before', before
+        return out + [('start', path, None)]
+
+    def path(self, need, thing):
+        for name, path, _ in self.chain(need):
+            if name == thing:
+                return path
+        fail(f'{need} knows no {thing}; it knows ' + ', '.join(name for name, _, _ in self.chain(need)))
+
+    def told(self, need, calls):
+        """What the way to the need told, each as an equation that `simp` rewrites by."""
+        out, chain = [], self.chain(need)[:-1]
+        for i, (thing, path, record) in enumerate(chain):
+            if record not in self.owns:
+                out += self.call(calls, thing, path, last=(i == 0))
+                continue
+            field, kind = re.match(r'\s*pub (\S+) :(.*)', self.owns[record], re.S).groups()
+            fact = f'{path} .{field}'
+            if field in ('taken', 'left'):
+                out += self.test(calls, kind, fact, chain[i + 1:])
+            elif field.startswith('keys') and 'tagOf' not in kind:
+                out.append(fact)
+            elif field == 'rest' and 'tagOf' not in kind:
+                n = kind.count('OneOf')
+                out += [f'ne-eqb _ _ ({fact}' + ' .0' * (n - 1 - k) + ' .1)' for k in range(n)]
+            elif field == 'given':
+                step = re.match(r'\s*(s\d+)', kind)
+                if step and re.search(r'k-enum-(told|known)', self.steps.get(step[1], '')):
+                    out.append(f'{fact} .1')
+        return out
+
+    @staticmethod
+    def result(calls, thing):
+        name = thing.replace('-', '_')
+        return calls.get(name) or calls.get(name.rstrip('0123456789')) or ('?', False)
+
+    def call(self, calls, thing, path, last):
+        kind, pair = self.result(calls, thing)
+        if pair:
+            return [f'{path} .ensures .0', f'{path} .ensures .1']
+        if kind == 'bool':
+            return [f'{path} .ensures'] if last else []
+        number = kind in ('u8', 'u16', 'u32', 'u64', 'usize') or kind in calls['enums']
+        return [('← ' if number else '') + f'{path} .ensures']
+
+    def test(self, calls, kind, fact, earlier):
+        if '⊥' in kind:
+            return [f'ne-eqb _ _ ({fact})']
+        if 'Nat._<_' in kind:
+            return [f'lt-ltb _ _ ({fact})', f'lt-leb _ _ ({fact})']
+        if 'Nat._≤_' in kind:
+            return [f'le-leb _ _ ({fact})', f'le-ltb _ _ ({fact})']
+        if 'Nat.ℕ' in kind.split('\n')[0] or '{A = Nat' in kind:
+            return [f'eq-eqb _ _ ({fact})']
+        asked = next(((t, p) for t, p, r in earlier if r not in self.owns), None)
+        if asked and self.result(calls, asked[0])[0] == 'bool':
+            return [f'sym ({asked[1]} .ensures) ∙ {fact}']
+        return [fact]
+
+
+def calls_of_all_crates():
+    """{function: (result type, whether it ensures two things)}, and the names of the enums."""
+    calls = {'enums': set()}
+    for path in glob.glob('crates/*/src/*.rt'):
+        text = read(path)
+        calls['enums'] |= set(re.findall(r'\benum (\w+)', text))
+        for m in re.finditer(r'\bfn (\w+)\s*(?:<[^>]*>)?\(', text):
+            end, depth = m.end(), 1
+            while depth:
+                depth += {'(': 1, ')': -1}.get(text[end], 0)
+                end += 1
+            result = re.match(r'\s*->\s*([^\n{]+)', text[end:])
+            ensured = re.match(r'[^{]*(?:requires \{[^}]*\}\s*)*ensures \{([^}]*)\}', text[end:])
+            pair = bool(ensured and ') × (' in ensured.group(1))
+            calls[m.group(1)] = (result.group(1).strip() if result else '()', pair)
+    return calls
+
+
+def modules_of_names(crate):
+    """{name: module} for all that a proof of the crate may cite."""
+    where = {name: module for module, names in KIT.items() for name in names.split()}
+    for path in sorted(glob.glob('crates/*/specs/*.antt') + glob.glob('crates/*/proofs/*.antt')):
+        owner, part, name = re.match(r'crates/(\w+)/(specs|proofs)/(\w+)\.antt', path).groups()
+        module = f'Rattle.{crate}.{part}.{name}' if owner == crate else f'Rattle.{owner}.{part}.{name}'
+        for m in re.finditer(r'^(?:abbrev |unfoldable )?pub (?:ruleset |record )?([^\s:={(]+)', read(path), re.M):
+            where[m.group(1)] = module
+    return where
+
+
+def imports(body, where):
+    tokens = set(re.findall(r'[^\s(),;{}]+', re.sub(r'^--.*$', '', body, flags=re.M)))
+    used = {}
+    for token in tokens:
+        for name in (token, f'_{token}_'):
+            if name in where:
+                used.setdefault(where[name], []).append(name)
+    return [f'use {module}.{{{", ".join(sorted(names))}}}' for module, names in sorted(used.items())]
+
+
+def answer_text(need, head, recipe, known, calls):
+    """The declaration's last line or lines: what the recipe, or else the search, answers."""
+    answer = recipe.get(need)
+    if answer is None:
+        answer = next((a for k, a in recipe.items() if '*' in k and fnmatch.fnmatchcase(need, k)), 'search needs')
+    opened = ''
+    m = re.match(r'unfolding ([^;]*);\s*', answer)
+    if m:
+        opened, answer = f'unfolding {m.group(1).strip()}\n', answer[m.end():]
+    if '{path}' in answer:
+        answer = answer.replace('{path}', 'simp (' + ', '.join(known.told(need, calls)) + ')')
+    answer = re.sub(r'\{([\w-]+)\}', lambda m: '(' + known.path(need, m.group(1)) + ')', answer)
+    return f'{opened}{head} = {answer}'
+
+
+def proof_file(crate, function, lines, recipe, known, calls, where):
+    """The whole Proof.antt from the check's printed lines and the recipe."""
+    kept = [l for l in lines if not re.match(r'use |-- src/', l)]
+    body, i = [], 0
+    while i < len(kept):
+        m = re.match(r'(\S+)((?: \S+)*) = (?:\?|search needs)$', kept[i])
+        if m:
+            body.append(answer_text(m.group(1), m.group(1) + m.group(2), recipe, known, calls))
+        else:
+            body.append(kept[i])
+        i += 1
+    text = '\n'.join(body).strip('\n') + '\n'
+    own = f'Rattle.{crate}.proofs.{function.replace("/", ".")}'
+    uses = imports(text, where) + [f'use {own}.Statement.{{statement}}', f'use {own}.Tie as tie']
+    if 'why' not in recipe:
+        fail(f'{function}: its recipe has no line `why`')
+    return f'-- {recipe["why"]}\n' + '\n'.join(uses) + '\n\n' + text
+
+
+def run(*words):
+    done = subprocess.run(words, capture_output=True, text=True, env={**os.environ, 'RT_CUT': '0'})
+    return done.stdout + done.stderr
+
+
+def main():
+    if len(sys.argv) < 2 or not os.path.isdir(f'crates/{sys.argv[1]}'):
+        fail('usage: tools/prove.py CRATE [FUNCTION ..], at the repository\'s root')
+    crate, recipes = sys.argv[1], recipes_of(sys.argv[1])
+    pending = sys.argv[2:] or list(recipes)
+    for function in pending:
+        if function not in recipes:
+            fail(f'no recipe for {function}')
+        if os.path.exists(f'crates/{crate}/proofs/{function}/Proof.antt'):
+            os.remove(f'crates/{crate}/proofs/{function}/Proof.antt')
+    calls, where = calls_of_all_crates(), modules_of_names(crate)
+    log = run('rt', 'dev', crate)
+    while pending:
+        found = {f: lines for f, lines in skeletons(log, crate).items() if f in pending}
+        if not found:
+            print(log)
+            fail('the check printed no lines for ' + ', '.join(pending))
+        if any('{' in a for f in found for a in recipes[f].values()):
+            run('rt', 'goals', crate)
+        for function, lines in found.items():
+            known = None
+            if any('{' in a for a in recipes[function].values()):
+                known = Known(crate, function)
+            os.makedirs(f'crates/{crate}/proofs/{function}', exist_ok=True)
+            with open(f'crates/{crate}/proofs/{function}/Proof.antt', 'w', encoding='utf8') as f:
+                f.write(proof_file(crate, function, lines, recipes[function], known, calls, where))
+            pending.remove(function)
+        run('rt', 'fmt')
+        log = run('rt', 'dev', crate)
+    errors = [l for l in log.splitlines() if re.search(r'^fn .*no proof|: error', l)]
+    print('\n'.join(l[:int(os.environ.get('CUT', '400'))] for l in errors) or f'{crate}: every function with a recipe is proved')
+    sys.exit(1 if errors else 0)
+
+
+main()
