@@ -4,6 +4,7 @@ use mathlib.Core.Bool.{Bool, true, false}
 use lib.Dec.{ltb}
 use Rattle.base.specs.Choice.{pick, within}
 use Rattle.geometry.specs.Geometry.{capacityOf}
+use Rattle.geometry.specs.Translation.{productOf}
 use Rattle.geometry.specs.declared.Geometry.{Geometry}
 use Rattle.geometry.specs.declared.Translation.{Translation}
 use Rattle.address.specs.Registers.{lbaSelected, lbaOf, cylinderOf, headOf}
@@ -35,3 +36,7 @@ chsAddress t r =
 -- "Either an address names a sector or it names its fault"
 unfoldable pub addressOf : Geometry → Translation → AddressRegisters → Address
 addressOf g t r = pick (lbaSelected r) (lbaAddress (capacityOf g) r) (chsAddress t r)
+
+-- how many sectors addresses of this kind reach: in LBA the disk's, in CHS the translation's
+unfoldable pub reachOf : Geometry → Translation → AddressRegisters → ℕ
+reachOf g t r = pick (lbaSelected r) (capacityOf g) (productOf t)

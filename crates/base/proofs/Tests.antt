@@ -41,3 +41,7 @@ within-low low high x e = leb-true _ _ (both-true (leb low x) (leb x high) e .0)
 pub within-high : (low high x : ℕ) → within low high x ≡ true → x ≤ high
 unfolding within
 within-high low high x e = leb-true _ _ (both-true (leb low x) (leb x high) e .1)
+
+pub within-true : (low high x : ℕ) → low ≤ x → x ≤ high → within low high x ≡ true
+unfolding within
+within-true low high x p q = rw (le-leb low x p, le-leb x high q)

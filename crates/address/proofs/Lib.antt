@@ -1,0 +1,5 @@
+pub mod RoundTrips
+pub mod Chs
+pub mod Addresses
+pub mod Successors
+pub mod Numbers
