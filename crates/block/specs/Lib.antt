@@ -1,0 +1,3 @@
+pub mod Words
+pub mod Sectors
+pub mod Passwords
