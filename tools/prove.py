@@ -21,6 +21,7 @@ import fnmatch
 import glob
 import os
 import re
+import shutil
 import subprocess
 import sys
 
@@ -38,7 +39,6 @@ KIT = {
     'lib.ListN': 'length getD take drop set replicate length-set length-take length-drop',
     'lib.Seq': 'paste length-take-le',
 }
-TESTS = '← lt-ltb le-ltb le-leb lt-leb eq-eqb ne-eqb sym ∙'
 
 
 def fail(text):
@@ -199,38 +199,62 @@ def imports(body, where):
     return [f'use {module}.{{{", ".join(sorted(names))}}}' for module, names in sorted(used.items())]
 
 
-def answer_text(need, head, recipe, known, calls):
-    """The declaration's last line or lines: what the recipe, or else the search, answers."""
-    answer = recipe.get(need)
-    if answer is None:
-        answer = next((a for k, a in recipe.items() if '*' in k and fnmatch.fnmatchcase(need, k)), 'search needs')
-    opened = ''
-    m = re.match(r'unfolding ([^;]*);\s*', answer)
-    if m:
-        opened, answer = f'unfolding {m.group(1).strip()}\n', answer[m.end():]
-    if '{path}' in answer:
-        answer = answer.replace('{path}', 'simp (' + ', '.join(known.told(need, calls)) + ')')
-    answer = re.sub(r'\{([\w-]+)\}', lambda m: '(' + known.path(need, m.group(1)) + ')', answer)
-    return f'{opened}{head} = {answer}'
+def answer_of(recipe, need):
+    """The recipe's answer to a need: the one under its name, else under a pattern, else the search."""
+    patterns = (answer for key, answer in recipe.items() if '*' in key and fnmatch.fnmatchcase(need, key))
+    return recipe.get(need) or next(patterns, 'search needs')
 
 
-def proof_file(crate, function, lines, recipe, known, calls, where):
-    """The whole Proof.antt from the check's printed lines and the recipe."""
-    kept = [l for l in lines if not re.match(r'use |-- src/', l)]
-    body, i = [], 0
-    while i < len(kept):
-        m = re.match(r'(\S+)((?: \S+)*) = (?:\?|search needs)$', kept[i])
+class Proof:
+    """One function's proof file: the lines that the check printed, and the recipe's answers."""
+
+    def __init__(self, crate, function, lines, recipe, context):
+        self.crate, self.function, self.recipe = crate, function, recipe
+        self.lines = [line for line in lines if not re.match(r'use |-- src/', line)]
+        self.calls, self.where = context
+        self.known = Known(crate, function) if any('{' in a for a in recipe.values()) else None
+        self.unused = {}
+
+    def path(self):
+        return f'crates/{self.crate}/proofs/{self.function}/Proof.antt'
+
+    def told(self, need):
+        """What the way to the need told, less what an earlier check found unused."""
+        facts, unused = self.known.told(need, self.calls), self.unused.get(need, [])
+        for start in set(unused):
+            same = [fact for fact in facts if fact.startswith(start)]
+            if len(same) == unused.count(start):
+                facts = [fact for fact in facts if fact not in same]
+        return 'simp (' + ', '.join(facts) + ')' if facts else 'refl'
+
+    def answer(self, need, head):
+        answer, opened = answer_of(self.recipe, need), ''
+        m = re.match(r'unfolding ([^;]*);\s*', answer)
         if m:
-            body.append(answer_text(m.group(1), m.group(1) + m.group(2), recipe, known, calls))
-        else:
-            body.append(kept[i])
-        i += 1
-    text = '\n'.join(body).strip('\n') + '\n'
-    own = f'Rattle.{crate}.proofs.{function.replace("/", ".")}'
-    uses = imports(text, where) + [f'use {own}.Statement.{{statement}}', f'use {own}.Tie as tie']
-    if 'why' not in recipe:
-        fail(f'{function}: its recipe has no line `why`')
-    return f'-- {recipe["why"]}\n' + '\n'.join(uses) + '\n\n' + text
+            opened, answer = f'unfolding {m.group(1).strip()}\n', answer[m.end():]
+        if '{path}' in answer:
+            answer = answer.replace('{path}', self.told(need))
+        answer = re.sub(r'\{([\w-]+)\}', lambda m: self.known.path(need, m.group(1)), answer)
+        return f'{opened}{head} = {answer}'
+
+    def write(self):
+        body = []
+        for line in self.lines:
+            m = re.match(r'(\S+)((?: \S+)*) = (?:\?|search needs)$', line)
+            body.append(self.answer(m.group(1), m.group(1) + m.group(2)) if m else line)
+        text = '\n'.join(body).strip('\n') + '\n'
+        own = f'Rattle.{self.crate}.proofs.{self.function.replace("/", ".")}'
+        uses = imports(text, self.where) + [f'use {own}.Statement.{{statement}}', f'use {own}.Tie as tie']
+        os.makedirs(os.path.dirname(self.path()), exist_ok=True)
+        with open(self.path(), 'w', encoding='utf8') as f:
+            f.write(f'-- {self.recipe["why"]}\n' + '\n'.join(uses) + '\n\n' + text)
+
+    def drop_unused(self, log):
+        """Takes in the check's notes on facts that `simp` never applied; whether there were any."""
+        note = rf'{re.escape(self.path())}:\d+:\d+: note: `simp` made .* never applied (.*) \(in `(\S+)`\)'
+        for m in re.finditer(note, log):
+            self.unused[m.group(2)] = [start.rstrip('…') for start in re.findall(r'`([^`]*)`', m.group(1))]
+        return bool(self.unused)
 
 
 def run(*words):
@@ -238,37 +262,52 @@ def run(*words):
     return done.stdout + done.stderr
 
 
-def main():
-    if len(sys.argv) < 2 or not os.path.isdir(f'crates/{sys.argv[1]}'):
+def check(crate):
+    """The whole of what a check of the crate prints, notes included."""
+    shutil.rmtree(f'target/inc/{crate}', ignore_errors=True)
+    return run('rt', 'dev', crate)
+
+
+def asked_for(words):
+    """The crate, its recipes, and the functions whose proofs are to be made anew."""
+    if not words or not os.path.isdir(f'crates/{words[0]}'):
         fail('usage: tools/prove.py CRATE [FUNCTION ..], at the repository\'s root')
-    crate, recipes = sys.argv[1], recipes_of(sys.argv[1])
-    pending = sys.argv[2:] or list(recipes)
-    for function in pending:
+    recipes = recipes_of(words[0])
+    for function in words[1:]:
         if function not in recipes:
             fail(f'no recipe for {function}')
+    for function, recipe in recipes.items():
+        if 'why' not in recipe:
+            fail(f'{function}: its recipe has no line `why`')
+    return words[0], recipes, words[1:] or list(recipes)
+
+
+def main():
+    crate, recipes, pending = asked_for(sys.argv[1:])
+    for function in pending:
         if os.path.exists(f'crates/{crate}/proofs/{function}/Proof.antt'):
             os.remove(f'crates/{crate}/proofs/{function}/Proof.antt')
-    calls, where = calls_of_all_crates(), modules_of_names(crate)
-    log = run('rt', 'dev', crate)
+    context, made = (calls_of_all_crates(), modules_of_names(crate)), []
+    log = check(crate)
     while pending:
+        # a caller's lines are printed once its callees with loops have their proofs
         found = {f: lines for f, lines in skeletons(log, crate).items() if f in pending}
         if not found:
             print(log)
             fail('the check printed no lines for ' + ', '.join(pending))
-        if any('{' in a for f in found for a in recipes[f].values()):
+        if any('{' in answer for f in found for answer in recipes[f].values()):
             run('rt', 'goals', crate)
         for function, lines in found.items():
-            known = None
-            if any('{' in a for a in recipes[function].values()):
-                known = Known(crate, function)
-            os.makedirs(f'crates/{crate}/proofs/{function}', exist_ok=True)
-            with open(f'crates/{crate}/proofs/{function}/Proof.antt', 'w', encoding='utf8') as f:
-                f.write(proof_file(crate, function, lines, recipes[function], known, calls, where))
+            made.append(Proof(crate, function, lines, recipes[function], context))
+            made[-1].write()
             pending.remove(function)
-        run('rt', 'fmt')
-        log = run('rt', 'dev', crate)
-    errors = [l for l in log.splitlines() if re.search(r'^fn .*no proof|: error', l)]
-    print('\n'.join(l[:int(os.environ.get('CUT', '400'))] for l in errors) or f'{crate}: every function with a recipe is proved')
+        log = check(crate)
+    for proof in [proof for proof in made if proof.drop_unused(log)]:
+        proof.write()
+    run('rt', 'fmt')
+    log = check(crate)
+    errors = [line[:400] for line in log.splitlines() if re.search(r'^fn .*no proof|: error', line)]
+    print('\n'.join(errors) or f'{crate}: {len(made)} proofs written, every function proved')
     sys.exit(1 if errors else 0)
 
 

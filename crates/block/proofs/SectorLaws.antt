@@ -26,8 +26,11 @@ unfolding sectorAt storedAt
 stored-same {s} {n} {b} r =
     let before : length (take (512 * n) s) ≡ 512 * n = length-take-le (512 * n) s (omega (arith, r .inside)) in
     let b′ : length (take 512 b) ≡ 512 = length-take-le 512 b (omega (arith, r .whole)) in
-    rw (append-assoc (take (512 * n) s) (take 512 b) (drop (512 * n + 512) s), drop-at (take (512 * n) s) (take 512 b ++ drop (512 * n + 512) s) (512 * n) before,
-    take-at (take 512 b) (drop (512 * n + 512) s) 512 b′)
+    rw (
+      append-assoc (take (512 * n) s) (take 512 b) (drop (512 * n + 512) s),
+      drop-at (take (512 * n) s) (take 512 b ++ drop (512 * n + 512) s) (512 * n) before,
+      take-at (take 512 b) (drop (512 * n + 512) s) 512 b′,
+    )
     (take-all 512 b (omega (arith, r .whole)))
 
 -- "all other bytes unchanged"
@@ -56,12 +59,14 @@ stored-other {s} {n} {b} r m apart =
   where
     long : length (take 512 (drop (512 * m) (storedAt s n b))) ≡ length (take 512 (drop (512 * m) s))
     long = simp (length-take, length-drop, stored-length r)
+
     side : (i : ℕ) → i < 512 → (512 * m + i < 512 * n) ⊎ (512 * n + 512 ≤ 512 * m + i)
     side i l = go (ltb m n) refl
       where
         go : (b : Bool) → ltb m n ≡ b → (512 * m + i < 512 * n) ⊎ (512 * n + 512 ≤ 512 * m + i)
         go true e = let p = ltb-true m n e in inl (omega arith)
         go false e = let p = ltb-false m n e in inr (omega arith)
+
     byte : (i : ℕ) → i < length (take 512 (drop (512 * m) (storedAt s n b)))
         → getD (take 512 (drop (512 * m) (storedAt s n b))) i 0 ≡ getD (take 512 (drop (512 * m) s)) i 0
     byte i l =
@@ -76,9 +81,12 @@ stored-other {s} {n} {b} r m apart =
 -- n of the same bytes in the middle
 zeros-inside : (z a n c : ℕ) → take n (drop a (replicate (a + (n + c)) z)) ≡ replicate n z
 zeros-inside z a n c =
-    rw (← replicate-append-replicate a (n + c) z, ← replicate-append-replicate n c z,
-    drop-at (replicate a z) (replicate n z ++ replicate c z) a (length-replicate a z),
-    take-at (replicate n z) (replicate c z) n (length-replicate n z))
+    rw (
+      ← replicate-append-replicate a (n + c) z,
+      ← replicate-append-replicate n c z,
+      drop-at (replicate a z) (replicate n z ++ replicate c z) a (length-replicate a z),
+      take-at (replicate n z) (replicate c z) n (length-replicate n z),
+    )
 
 pub zeroed-length : (s : List ℕ) → length (zeroed s) ≡ length s
 unfolding zeroed

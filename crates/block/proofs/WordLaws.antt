@@ -1,7 +1,7 @@
 -- A word that was put is read back, and the other words are as they were.
 use Prim.Native.Nat.{ℕ, _+_, _*_, _/_, _%_, _≤_, _<_}
-use mathlib.Core.Path.{_≡_, sym, _∙_}
-use mathlib.Core.List.{List}
+use mathlib.Core.Path.{_≡_, refl, sym, _∙_}
+use mathlib.Core.List.{List, _∷_}
 use native.Mathlib.Omega.{arith}
 use lib.ListN.{length, getD, set, length-set}
 use lib.Seq.{getD-set-same, getD-set-other}
@@ -32,3 +32,8 @@ put-other b n m w k =
   where
     odd : (a c : ℕ) → 2 * a ≡ 2 * c + 1 → ⊥
     odd a c q = omega arith
+
+-- "low byte first"
+pub low-byte-first : (x y : ℕ) (rest : List ℕ) → wordAt (x ∷ y ∷ rest) 0 ≡ x + 256 * y
+unfolding wordAt
+low-byte-first x y rest = refl

@@ -17,7 +17,8 @@ pub fn word_at(block: &[u8; 512], n: u8) -> u16
     ensures { λ r. ⌜ r ≡ wordAt (now (block .entry)) n ⌝ }
 {
     let low = 2 * (n as usize);
-    wide(block[low]) + 256 * wide(block[low + 1])
+    let high = low + 1;
+    wide(block[low]) + 256 * wide(block[high])
 }
 
 // Word n of a block becomes w.
@@ -25,8 +26,9 @@ pub fn put_word(block: &mut [u8; 512], n: u8, w: u16)
     ensures { λ r. ⌜ now (block .exit) ≡ wordPut (now (block .entry)) n w ⌝ }
 {
     let low = 2 * (n as usize);
+    let high = low + 1;
     block[low] = (w % 256) as u8;
-    block[low + 1] = (w / 256) as u8;
+    block[high] = (w / 256) as u8;
 }
 
 pub fn zeros() -> [u8; 512]
@@ -42,10 +44,10 @@ pub fn load(sectors: &[u8], n: u32) -> [u8; 512]
 {
     let at = 512 * (n as usize);
     let mut block = [0u8; 512];
-    let mut i = 0;
-    while i < 512 {
-        block[i] = sectors[at + i];
-        i += 1;
+    let mut loaded = 0;
+    while loaded < 512 {
+        block[loaded] = sectors[at + loaded];
+        loaded += 1;
     }
     block
 }
@@ -56,10 +58,10 @@ pub fn store(sectors: &mut [u8], n: u32, block: [u8; 512])
     ensures { λ r. ⌜ now (sectors .exit) ≡ storedAt (now (sectors .entry)) n block ⌝ }
 {
     let at = 512 * (n as usize);
-    let mut i = 0;
-    while i < 512 {
-        sectors[at + i] = block[i];
-        i += 1;
+    let mut stored = 0;
+    while stored < 512 {
+        sectors[at + stored] = block[stored];
+        stored += 1;
     }
 }
 
@@ -67,10 +69,10 @@ pub fn store(sectors: &mut [u8], n: u32, block: [u8; 512])
 pub fn zero(memory: &mut [u8])
     ensures { λ r. ⌜ now (memory .exit) ≡ zeroed (now (memory .entry)) ⌝ }
 {
-    let mut i = 0;
-    while i < memory.len() {
-        memory[i] = 0;
-        i += 1;
+    let mut cleared = 0;
+    while cleared < memory.len() {
+        memory[cleared] = 0;
+        cleared += 1;
     }
 }
 
@@ -79,10 +81,10 @@ pub fn password(block: [u8; 512]) -> [u8; 32]
     ensures { λ r. ⌜ r ≡ passwordOf block ⌝ }
 {
     let mut bytes = [0u8; 32];
-    let mut i = 0;
-    while i < 32 {
-        bytes[i] = block[2 + i];
-        i += 1;
+    let mut taken = 0;
+    while taken < 32 {
+        bytes[taken] = block[2 + taken];
+        taken += 1;
     }
     bytes
 }
@@ -93,10 +95,10 @@ pub fn same(a: [u8; 32], b: [u8; 32]) -> bool
     ensures { λ r. ⌜ r ≡ same a b ⌝ }
 {
     let mut equal = true;
-    let mut i = 0;
-    while i < 32 {
-        equal = equal & (a[i] == b[i]);
-        i += 1;
+    let mut compared = 0;
+    while compared < 32 {
+        equal = equal & (a[compared] == b[compared]);
+        compared += 1;
     }
     equal
 }

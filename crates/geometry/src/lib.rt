@@ -69,7 +69,7 @@ impl Geometry {
     pub fn capacity(self) -> u32
         ensures { λ r. ⌜ r ≡ capacityOf self ⌝ }
     {
-        (self.cylinders as u32) * (self.heads as u32) * (self.sectors as u32)
+        self.factory().product()
     }
 
     // The translation that power-on and every reset bring.

@@ -1,4 +1,4 @@
--- After i turns the first i bytes are the sector's.
+-- After each turn one byte more is the sector's.
 use Prim.Native.Nat.{_*_, _-_}
 use Rattle.block.proofs.Copies.{Copied, copied-more, copied-none, copied-whole}
 use Rattle.block.specs.Sectors.{sectorAt}
@@ -8,10 +8,10 @@ use Rattle.block.proofs.load.Statement.{statement}
 use Rattle.block.proofs.load.Tie as tie
 
 abbrev Inv-loop : tie.InvT-loop
-Inv-loop sectors n at block₀ i₀ block i = Copied 512 block₀ sectors block 0 (512 * n) i
+Inv-loop sectors n at block₀ loaded₀ block loaded = Copied 512 block₀ sectors block 0 (512 * n) loaded
 
 abbrev μ-loop : tie.MeasureT-loop
-μ-loop sectors n at block₀ i₀ block i = 512 - i
+μ-loop sectors n at block₀ loaded₀ block loaded = 512 - loaded
 
 mul-at : tie.Need-mul-at Inv-loop μ-loop
 mul-at c = search needs
@@ -28,18 +28,18 @@ shared-slice-read-block c = search needs
 array-write-block : tie.Need-array-write-block Inv-loop μ-loop
 array-write-block c = search needs
 
-add-i : tie.Need-add-i Inv-loop μ-loop
-add-i c = search needs
+add-loaded : tie.Need-add-loaded Inv-loop μ-loop
+add-loaded c = search needs
 
 loop-less : tie.Need-loop-less Inv-loop μ-loop
 loop-less c = search needs
 
 loop-again : tie.Need-loop-again Inv-loop μ-loop
-loop-again c = copied-more _ _ ((c .before .before .loop) .inv) ((c .before .loop-test) .taken) (omega arith) (omega arith)
+loop-again c = copied-more _ _ (c .before .before .loop .inv) (c .before .loop-test .taken) (omega arith) (omega arith)
 
 returns : tie.Need-returns Inv-loop μ-loop
 unfolding sectorAt
-returns c = copied-whole ((c .before .loop) .inv) (search needs) ((c .loop-test) .left)
+returns c = copied-whole (c .before .loop .inv) (search needs) (c .loop-test .left)
 
 pub load-spec : {M : Type 1} → statement M
 load-spec =
@@ -52,7 +52,7 @@ load-spec =
     add-block
     shared-slice-read-block
     array-write-block
-    add-i
+    add-loaded
     loop-less
     loop-again
     returns)

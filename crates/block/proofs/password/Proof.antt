@@ -1,4 +1,4 @@
--- After i turns the first i bytes are those of words 1 to 16.
+-- After each turn one byte more is that of words 1 to 16.
 use Prim.Native.Nat.{_-_}
 use Rattle.block.proofs.Copies.{Copied, copied-more, copied-none, copied-whole}
 use Rattle.block.specs.Passwords.{passwordOf}
@@ -8,10 +8,10 @@ use Rattle.block.proofs.password.Statement.{statement}
 use Rattle.block.proofs.password.Tie as tie
 
 abbrev Inv-loop : tie.InvT-loop
-Inv-loop block bytes₀ i₀ bytes i = Copied 32 bytes₀ block bytes 0 2 i
+Inv-loop block bytes₀ taken₀ bytes taken = Copied 32 bytes₀ block bytes 0 2 taken
 
 abbrev μ-loop : tie.MeasureT-loop
-μ-loop block bytes₀ i₀ bytes i = 32 - i
+μ-loop block bytes₀ taken₀ bytes taken = 32 - taken
 
 loop-holds : tie.Need-loop-holds Inv-loop μ-loop
 loop-holds c = copied-none _ _ _ _ _ (search needs) (search needs)
@@ -25,18 +25,18 @@ array-read-bytes c = search needs
 array-write-bytes : tie.Need-array-write-bytes Inv-loop μ-loop
 array-write-bytes c = search needs
 
-add-i : tie.Need-add-i Inv-loop μ-loop
-add-i c = search needs
+add-taken : tie.Need-add-taken Inv-loop μ-loop
+add-taken c = search needs
 
 loop-less : tie.Need-loop-less Inv-loop μ-loop
 loop-less c = search needs
 
 loop-again : tie.Need-loop-again Inv-loop μ-loop
-loop-again c = copied-more _ _ ((c .before .loop) .inv) ((c .loop-test) .taken) (omega arith) (omega arith)
+loop-again c = copied-more _ _ (c .before .loop .inv) (c .loop-test .taken) (omega arith) (omega arith)
 
 returns : tie.Need-returns Inv-loop μ-loop
 unfolding passwordOf
-returns c = copied-whole ((c .before .loop) .inv) (search needs) ((c .loop-test) .left)
+returns c = copied-whole (c .before .loop .inv) (search needs) (c .loop-test .left)
 
 pub password-spec : {M : Type 1} → statement M
 password-spec =
@@ -48,7 +48,7 @@ password-spec =
     add-bytes
     array-read-bytes
     array-write-bytes
-    add-i
+    add-taken
     loop-less
     loop-again
     returns)

@@ -7,6 +7,9 @@ use Rattle.block.proofs.put_word.Tie as tie
 mul-low : tie.Need-mul-low
 mul-low c = search needs
 
+add-high : tie.Need-add-high
+add-high c = search needs
+
 cast-block : tie.Need-cast-block
 cast-block c = search needs
 
@@ -15,9 +18,6 @@ element-write-block c = search needs
 
 cast-block-2 : tie.Need-cast-block-2
 cast-block-2 c = search needs
-
-add-block : tie.Need-add-block
-add-block c = search needs
 
 element-write-block-2 : tie.Need-element-write-block-2
 element-write-block-2 c = search needs
@@ -31,9 +31,9 @@ put-word-spec =
     tie.close
     (tie.spec
     mul-low
+    add-high
     cast-block
     element-write-block
     cast-block-2
-    add-block
     element-write-block-2
     returns)

@@ -7,14 +7,14 @@ use Rattle.block.proofs.word_at.Tie as tie
 mul-low : tie.Need-mul-low
 mul-low c = search needs
 
+add-high : tie.Need-add-high
+add-high c = search needs
+
 element-copy-out-wide : tie.Need-element-copy-out-wide
 element-copy-out-wide c = search needs
 
 wide-requires : tie.Need-wide-requires
 wide-requires c κs = search needs
-
-add-wide : tie.Need-add-wide
-add-wide c = search needs
 
 element-copy-out-wide-2 : tie.Need-element-copy-out-wide-2
 element-copy-out-wide-2 c = search needs
@@ -37,9 +37,9 @@ word-at-spec =
     tie.close
     (tie.spec
     mul-low
+    add-high
     element-copy-out-wide
     wide-requires
-    add-wide
     element-copy-out-wide-2
     wide-requires-2
     mul-result

@@ -3,7 +3,7 @@ use Rattle.address.specs.Address.{chsAddress, chsNumber}
 use Rattle.base.proofs.Products.{fits-mul16, fits-number, fits-sectors, fits-track}
 use Rattle.base.proofs.Tests.{within-low}
 use borrow.Author.Needs.{needs}
-use borrow.Author.Tests.{le-leb, le-ltb, lt-leb, lt-ltb}
+use borrow.Author.Tests.{le-ltb, lt-ltb}
 use mathlib.Core.Path.{_∙_, sym}
 use native.Mathlib.Omega.{arith}
 use Rattle.address.proofs.AddressRegisters.chs_address.Statement.{statement}
@@ -56,19 +56,19 @@ sub-number c = omega (arith, within-low _ _ _ (sym ((c .before .before .before .
 
 returns : tie.Need-returns
 unfolding chsAddress chsNumber
-returns c = simp (lt-ltb _ _ (c .before .before .before .if3 .taken), lt-leb _ _ (c .before .before .before .if3 .taken), lt-ltb _ _ (c .before .before .before .before .before .if2 .taken), lt-leb _ _ (c .before .before .before .before .before .if2 .taken), sym (c .before .before .before .before .before .before .before .before .within .ensures) ∙ c .before .before .before .before .before .before .before .if1 .taken, ← c .before .before .before .before .before .before .before .before .before .before .before .head-number .ensures, ← c .before .before .before .before .before .before .before .before .before .before .before .before .cylinder .ensures)
+returns c = simp (lt-ltb _ _ (c .before .before .before .if3 .taken), lt-ltb _ _ (c .before .before .before .before .before .if2 .taken), sym (c .before .before .before .before .before .before .before .before .within .ensures) ∙ c .before .before .before .before .before .before .before .if1 .taken, ← c .before .before .before .before .before .before .before .before .before .before .before .head-number .ensures, ← c .before .before .before .before .before .before .before .before .before .before .before .before .cylinder .ensures)
 
 returns-2 : tie.Need-returns-2
 unfolding chsAddress
-returns-2 c = simp (le-leb _ _ (c .if3 .left), le-ltb _ _ (c .if3 .left), lt-ltb _ _ (c .before .before .if2 .taken), lt-leb _ _ (c .before .before .if2 .taken), sym (c .before .before .before .before .before .within .ensures) ∙ c .before .before .before .before .if1 .taken, ← c .before .before .before .before .before .before .before .before .head-number .ensures, ← c .before .before .before .before .before .before .before .before .before .cylinder .ensures)
+returns-2 c = simp (le-ltb _ _ (c .if3 .left), lt-ltb _ _ (c .before .before .if2 .taken), sym (c .before .before .before .before .before .within .ensures) ∙ c .before .before .before .before .if1 .taken, ← c .before .before .before .before .before .before .before .before .head-number .ensures, ← c .before .before .before .before .before .before .before .before .before .cylinder .ensures)
 
 returns-3 : tie.Need-returns-3
 unfolding chsAddress
-returns-3 c = simp (le-leb _ _ (c .if2 .left), le-ltb _ _ (c .if2 .left), sym (c .before .before .before .within .ensures) ∙ c .before .before .if1 .taken, ← c .before .before .before .before .before .before .head-number .ensures, ← c .before .before .before .before .before .before .before .cylinder .ensures)
+returns-3 c = simp (le-ltb _ _ (c .if2 .left), sym (c .before .before .before .within .ensures) ∙ c .before .before .if1 .taken, ← c .before .before .before .before .before .before .head-number .ensures, ← c .before .before .before .before .before .before .before .cylinder .ensures)
 
 returns-4 : tie.Need-returns-4
 unfolding chsAddress
-returns-4 c = simp (sym (c .before .within .ensures) ∙ c .if1 .left, ← c .before .before .before .before .head-number .ensures, ← c .before .before .before .before .before .cylinder .ensures)
+returns-4 c = simp (sym (c .before .within .ensures) ∙ c .if1 .left)
 
 pub chs-address-spec : {M : Type 1} → statement M
 chs-address-spec =

@@ -2,7 +2,7 @@
 use Rattle.address.specs.Registers.{headOf}
 use Rattle.address.specs.Successor.{chsSuccessor}
 use borrow.Author.Needs.{needs}
-use borrow.Author.Tests.{le-leb, le-ltb, lt-leb, lt-ltb}
+use borrow.Author.Tests.{le-ltb, lt-ltb}
 use native.Mathlib.Omega.{arith}
 use Rattle.address.proofs.AddressRegisters.chs_successor.Statement.{statement}
 use Rattle.address.proofs.AddressRegisters.chs_successor.Tie as tie
@@ -12,7 +12,7 @@ add-self c = search needs
 
 returns : tie.Need-returns
 unfolding chsSuccessor
-returns c = simp (lt-ltb _ _ (c .before .if1 .taken), lt-leb _ _ (c .before .if1 .taken))
+returns c = simp (lt-ltb _ _ (c .before .if1 .taken))
 
 head-number-requires : tie.Need-head-number-requires
 head-number-requires c κs = search needs
@@ -35,7 +35,7 @@ with-head-requires c κs = search needs
 
 returns-2 : tie.Need-returns-2
 unfolding chsSuccessor
-returns-2 c = simp (c .with-head .ensures, lt-ltb _ _ (c .before .if2 .taken), lt-leb _ _ (c .before .if2 .taken), ← c .before .before .before .cylinder .ensures, ← c .before .before .before .before .head-number .ensures, le-leb _ _ (c .before .before .before .before .before .if1 .left), le-ltb _ _ (c .before .before .before .before .before .if1 .left))
+returns-2 c = simp (c .with-head .ensures, lt-ltb _ _ (c .before .if2 .taken), ← c .before .before .before .cylinder .ensures, ← c .before .before .before .before .head-number .ensures, le-ltb _ _ (c .before .before .before .before .before .if1 .left))
 
 with-head-requires-2 : tie.Need-with-head-requires-2
 with-head-requires-2 c κs = search needs
@@ -45,7 +45,7 @@ with-cylinder-requires c κs = search needs
 
 returns-3 : tie.Need-returns-3
 unfolding chsSuccessor
-returns-3 c = simp (c .with-cylinder .ensures, c .before .with-head2 .ensures, le-leb _ _ (c .before .before .if2 .left), le-ltb _ _ (c .before .before .if2 .left), ← c .before .before .before .before .cylinder .ensures, ← c .before .before .before .before .before .head-number .ensures, le-leb _ _ (c .before .before .before .before .before .before .if1 .left), le-ltb _ _ (c .before .before .before .before .before .before .if1 .left))
+returns-3 c = simp (c .with-cylinder .ensures, c .before .with-head2 .ensures, le-ltb _ _ (c .before .before .if2 .left), ← c .before .before .before .before .cylinder .ensures, ← c .before .before .before .before .before .head-number .ensures, le-ltb _ _ (c .before .before .before .before .before .before .if1 .left))
 
 pub chs-successor-spec : {M : Type 1} → statement M
 chs-successor-spec =

@@ -1,29 +1,20 @@
--- A product of a 16-bit and two 8-bit counts fits 32 bits.
-use Rattle.base.proofs.Products.{fits-mul16, fits-mul3}
+-- The factory translation's product is C x H x S.
 use Rattle.geometry.specs.Geometry.{capacityOf}
+use Rattle.geometry.specs.Translation.{productOf}
 use borrow.Author.Needs.{needs}
+use mathlib.Core.Path.{_∙_, ap}
 use Rattle.geometry.proofs.Geometry.capacity.Statement.{statement}
 use Rattle.geometry.proofs.Geometry.capacity.Tie as tie
 
-cast-result : tie.Need-cast-result
-cast-result c = search needs
+factory-requires : tie.Need-factory-requires
+factory-requires c κs = search needs
 
-cast-result-2 : tie.Need-cast-result-2
-cast-result-2 c = search needs
-
-mul-result : tie.Need-mul-result
-mul-result c = search fits-mul16
-
-cast-result-3 : tie.Need-cast-result-3
-cast-result-3 c = search needs
-
-mul-result-2 : tie.Need-mul-result-2
-mul-result-2 c = search fits-mul3
+product-requires : tie.Need-product-requires
+product-requires c κs = search needs
 
 returns : tie.Need-returns
-unfolding capacityOf
-returns c = search needs
+unfolding capacityOf productOf
+returns c = c .product .ensures ∙ ap productOf (c .before .factory .ensures)
 
 pub capacity-spec : {M : Type 1} → statement M
-capacity-spec =
-    tie.close (tie.spec cast-result cast-result-2 mul-result cast-result-3 mul-result-2 returns)
+capacity-spec = tie.close (tie.spec factory-requires product-requires returns)

@@ -22,11 +22,11 @@ cast-result c = search needs
 
 returns : tie.Need-returns
 unfolding cylindersFor
-returns c = rw (← (c .before .capacity) .ensures) (sym (min-eq-left (omega arith)))
+returns c = rw (← c .before .capacity .ensures) (sym (min-eq-left (omega arith)))
 
 returns-2 : tie.Need-returns-2
 unfolding cylindersFor
-returns-2 c = rw (← (c .before .capacity) .ensures) (sym (min-eq-right (omega arith)))
+returns-2 c = rw (← c .before .capacity .ensures) (sym (min-eq-right (omega arith)))
 
 pub cylinders-for-spec : {M : Type 1} → statement M
 cylinders-for-spec =

@@ -13,7 +13,7 @@ within-requires : tie.Need-within-requires
 within-requires c κs = search needs
 
 sub-initialize : tie.Need-sub-initialize
-sub-initialize c = within-low _ _ _ (sym ((c .before .before .within) .ensures) ∙ (c .before .if1) .taken)
+sub-initialize c = within-low _ _ _ (sym (c .before .before .within .ensures) ∙ c .before .if1 .taken)
 
 initialize-requires : tie.Need-initialize-requires
 initialize-requires c κs = search needs
