@@ -35,7 +35,7 @@ impl AddressRegisters {
     }
 
     // The 28 bits of an LBA, Sector Number lowest, head nibble highest.
-    pub fn lba(self) -> u32
+    fn lba(self) -> u32
         ensures { λ r. ⌜ r ≡ lbaOf self ⌝ }
     {
         (self.sector as u32)
@@ -44,21 +44,21 @@ impl AddressRegisters {
             + 16777216 * ((self.head % 16) as u32)
     }
 
-    pub fn cylinder(self) -> u16
+    fn cylinder(self) -> u16
         ensures { λ r. ⌜ r ≡ cylinderOf self ⌝ }
     {
         (self.low as u16) + 256 * (self.high as u16)
     }
 
     // The head nibble.
-    pub fn head_number(self) -> u8
+    fn head_number(self) -> u8
         ensures { λ r. ⌜ r ≡ headOf self ⌝ }
     {
         self.head % 16
     }
 
     // The lowest 28 bits of n as LBA; the high nibble of Device/Head stays.
-    pub fn with_lba(mut self, n: u32) -> Self
+    fn with_lba(mut self, n: u32) -> Self
         ensures { λ r. ⌜ r ≡ withLba self n ⌝ }
     {
         self.sector = (n % 256) as u8;

@@ -32,11 +32,11 @@ loop-less : tie.Need-loop-less Inv-loop μ-loop
 loop-less c = search needs
 
 loop-again : tie.Need-loop-again Inv-loop μ-loop
-loop-again c = copied-more _ _ (c .before .loop .inv) (c .loop-test .taken) (omega arith) (omega arith)
+loop-again c = copied-more _ _ (c .before .loop .inv) (omega arith) (omega arith) (omega arith)
 
 returns : tie.Need-returns Inv-loop μ-loop
 unfolding passwordOf
-returns c = copied-whole (c .before .loop .inv) (search needs) (c .loop-test .left)
+returns c = copied-whole (c .before .loop .inv) (search needs) (omega arith)
 
 pub password-spec : {M : Type 1} → statement M
 password-spec =

@@ -2,6 +2,7 @@
 use Prim.Native.Nat.{_-_}
 use Rattle.block.proofs.Comparing.{Compared, compared-done, compared-more, compared-none}
 use borrow.Author.Needs.{needs}
+use native.Mathlib.Omega.{arith}
 use Rattle.block.proofs.same.Statement.{statement}
 use Rattle.block.proofs.same.Tie as tie
 
@@ -27,10 +28,10 @@ loop-less : tie.Need-loop-less Inv-loop μ-loop
 loop-less c = search needs
 
 loop-again : tie.Need-loop-again Inv-loop μ-loop
-loop-again c = compared-more (c .before .loop .inv) (c .loop-test .taken)
+loop-again c = compared-more (c .before .loop .inv) (omega arith)
 
 returns : tie.Need-returns Inv-loop μ-loop
-returns c = compared-done (c .before .loop .inv) (c .loop-test .left)
+returns c = compared-done (c .before .loop .inv) (omega arith)
 
 pub same-spec : {M : Type 1} → statement M
 same-spec =

@@ -35,14 +35,14 @@ loop-less : tie.Need-loop-less Inv-loop μ-loop
 loop-less c = search needs
 
 loop-again : tie.Need-loop-again Inv-loop μ-loop
-loop-again c = copied-more _ _ (c .before .loop .inv) (c .loop-test .taken) (omega arith) (omega arith)
+loop-again c = copied-more _ _ (c .before .loop .inv) (omega arith) (omega arith) (omega arith)
 
 same-length : tie.Need-same-length Inv-loop μ-loop
 same-length c = c .before .loop .inv .long
 
 returns : tie.Need-returns Inv-loop μ-loop
 unfolding storedAt
-returns c = copied-done (c .before .loop .inv) (c .loop-test .left)
+returns c = copied-done (c .before .loop .inv) (omega arith)
 
 pub store-spec : {M : Type 1} → statement M
 store-spec =
