@@ -1,11 +1,11 @@
 -- When registers name a sector and when they fault, as facts on numbers; a named sector is below the capacity.
-use Prim.Native.Nat.{ℕ, _+_, _≤_, _<_}
-use native.Mathlib.Nat.{le-trans, lt-of-lt-of-le}
+use Prim.Native.Nat.{ℕ, _≤_, _<_}
+use native.Mathlib.Nat.{lt-of-lt-of-le}
 use native.Mathlib.Omega.{arith}
 use mathlib.Core.Bool.{Bool, true, false}
-use mathlib.Core.Path.{_≡_, refl, sym, ap, _∙_}
+use mathlib.Core.Path.{_≡_, refl, sym, ap}
 use lib.Dec.{ltb}
-use borrow.Author.Tests.{lt-ltb, le-ltb, ltb-true, ltb-false, eqb-false}
+use borrow.Author.Tests.{lt-ltb, le-ltb, ltb-true, eqb-false}
 use Rattle.base.specs.Choice.{pick, within}
 use Rattle.base.proofs.Tests.{within-low, within-high, within-true}
 use Rattle.geometry.specs.Geometry.{capacityOf}

@@ -8,9 +8,8 @@ use Rattle.geometry.specs.declared.Geometry.{Geometry}
 use Rattle.geometry.specs.declared.Initialized.the-variants.{To}
 use Rattle.address.specs.Registers.{lbaSelected, lbaOf, cylinderOf, headOf}
 use Rattle.address.specs.Address.{names, lbaAddress, chsNumber, chsAddress, addressOf}
-use Rattle.address.specs.declared.AddressRegisters.{AddressRegisters}
 use Rattle.address.specs.declared.Address.{Address}
-use Rattle.address.specs.declared.Address.the-variants.{Names, Faults}
+use Rattle.address.specs.declared.Address.the-variants.{Faults}
 
 -- the disk of 4 x 2 x 8
 abbrev pub small : Geometry

@@ -1,5 +1,5 @@
 -- Numbers put into registers 3 to 6 are read back, numbers read are put back, and the mode bits of Device/Head stay.
-use Prim.Native.Nat.{ℕ, _+_, _*_, _/_, _%_, _<_, _^_}
+use Prim.Native.Nat.{ℕ, _/_, _%_, _<_, _^_}
 use native.Mathlib.Omega.{arith}
 use mathlib.Core.Path.{_≡_, refl, ap}
 use lib.Dec.{eqb}

@@ -1,12 +1,12 @@
 -- The successor of sector n names n + 1, or faults exactly at the end; there the registers are what the paper names.
-use Prim.Native.Nat.{ℕ, suc, _+_, _-_, _*_, _/_, _%_, _≤_, _<_, _^_}
+use Prim.Native.Nat.{ℕ, _+_, _*_, _/_, _≤_, _<_}
 use native.Mathlib.Nat.{add-zero}
 use native.Mathlib.Omega.{arith}
 use mathlib.Core.Bool.{Bool, true, false}
 use mathlib.Core.Path.{_≡_, refl, sym, ap, _∙_}
 use mathlib.Core.Logic.{_⊎_, inl, inr}
 use lib.Dec.{ltb}
-use borrow.Author.Tests.{lt-ltb, le-ltb, ltb-true, ltb-false}
+use borrow.Author.Tests.{ltb-true, ltb-false}
 use Rattle.base.specs.Choice.{pick}
 use Rattle.geometry.specs.Geometry.{geometryFits, capacityOf}
 use Rattle.geometry.specs.Translation.{translationAllowed, productOf}
@@ -14,8 +14,8 @@ use Rattle.geometry.specs.declared.Geometry.{Geometry}
 use Rattle.geometry.specs.declared.Translation.{Translation}
 use Rattle.geometry.proofs.Limits.{capacity-lba}
 use Rattle.geometry.proofs.Translations.{allowed-asked, cylinders-few}
-use Rattle.address.specs.Registers.{lbaSelected, lbaOf, cylinderOf, headOf, withNibble, withSector, withCylinder, withHead, withLba}
-use Rattle.address.specs.Address.{names, lbaAddress, chsNumber, chsAddress, addressOf, reachOf}
+use Rattle.address.specs.Registers.{lbaSelected, lbaOf, cylinderOf, headOf, withSector, withCylinder, withHead, withLba}
+use Rattle.address.specs.Address.{names, chsNumber, addressOf, reachOf}
 use Rattle.address.specs.Successor.{lbaSuccessor, chsSuccessor, successorOf}
 use Rattle.address.specs.declared.AddressRegisters.{AddressRegisters}
 use Rattle.address.specs.declared.Sector.{Sector}

@@ -1,6 +1,5 @@
 -- The sector that registers 3 to 6 name, or that they fault (document 01, "Commands").
 use Prim.Native.Nat.{ℕ, _+_, _-_, _*_}
-use mathlib.Core.Bool.{Bool, true, false}
 use lib.Dec.{ltb}
 use Rattle.base.specs.Choice.{pick, within}
 use Rattle.geometry.specs.Geometry.{capacityOf}

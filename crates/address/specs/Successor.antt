@@ -1,6 +1,5 @@
 -- The registers of the next address (document 01, "Commands": "The successor steps s, then h, then c").
-use Prim.Native.Nat.{ℕ, _+_}
-use mathlib.Core.Bool.{Bool, true, false}
+use Prim.Native.Nat.{_+_}
 use lib.Dec.{ltb}
 use Rattle.base.specs.Choice.{pick}
 use Rattle.geometry.specs.declared.Translation.{Translation}

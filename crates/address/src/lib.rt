@@ -1,6 +1,5 @@
 // Registers 3 to 6 as an address: the sector that they name or that they fault, and the registers of the next address.
 ghost use mathlib.Core.Path.{_≡_};
-ghost use Rattle.geometry.specs.Geometry.{capacityOf};
 ghost use Rattle.address.specs.Registers.{lbaSelected, lbaOf, cylinderOf, headOf, withLba, withCylinder, withHead};
 ghost use Rattle.address.specs.Address.{lbaAddress, chsAddress, addressOf};
 ghost use Rattle.address.specs.Successor.{lbaSuccessor, chsSuccessor, successorOf};

@@ -1,7 +1,7 @@
 // Blocks of 512 bytes: their words, the sectors of lent memory, and the password that a block carries.
 ghost use mathlib.Core.Path.{_≡_};
 ghost use Prim.Native.Nat.{_+_, _*_, _<_, _≤_};
-ghost use lib.ListN.{length, replicate};
+ghost use lib.ListN.{length};
 ghost use Rattle.block.specs.Words.{wordAt, wordPut};
 ghost use Rattle.block.specs.Sectors.{zeroBlock, sectorAt, storedAt, zeroed};
 ghost use Rattle.block.specs.Passwords.{passwordOf, same};

@@ -1,16 +1,13 @@
 -- A geometry is made exactly of counts within the limits, and its capacity is from 1 to the ceilings' product.
-use Prim.Native.Nat.{ℕ, _*_, _≤_, _<_, _^_}
+use Prim.Native.Nat.{ℕ, _≤_, _<_, _^_}
 use native.Mathlib.Nat.{mul-le-mul, one-le-mul}
 use native.Mathlib.Omega.{arith}
 use mathlib.Core.Bool.{Bool, true, false}
-use mathlib.Core.Path.{_≡_, refl, sym, _∙_}
-use lib.Dec.{leb}
-use borrow.Author.Tests.{le-leb}
+use mathlib.Core.Path.{_≡_, refl}
 use Rattle.base.specs.Choice.{pick, within}
-use Rattle.base.proofs.Tests.{both-true, within-low, within-high, within-true, false≢true}
+use Rattle.base.proofs.Tests.{both-true, within-low, within-high, within-true}
 use Rattle.geometry.specs.Geometry.{maxCylinders, maxHeads, maxSectors, maxCapacity, geometryFits, checkedOf, capacityOf}
 use Rattle.geometry.specs.declared.Geometry.{Geometry}
-use Rattle.geometry.specs.declared.Checked.{Checked}
 use Rattle.geometry.specs.declared.Checked.the-variants.{Within, OutsideLimits}
 
 -- each count is from 1 to its ceiling

@@ -1,5 +1,5 @@
 -- Which translations 91h makes: the counts asked for, as many cylinders as the capacity holds, and never more sectors than the disk has.
-use Prim.Native.Nat.{ℕ, suc, min, _+_, _-_, _*_, _/_, _%_, _≤_, _<_}
+use Prim.Native.Nat.{ℕ, min, _+_, _-_, _*_, _/_, _≤_, _<_}
 use native.Mathlib.Nat.{mul-le-mul-right, mul-pos, min-le-left, min-le-right, min-eq-left, div-mul-le-self, lt-div-mul-add, mul-assoc, mul-div-cancel, le-trans, add-mul}
 use native.Mathlib.Omega.{arith}
 use mathlib.Core.Bool.{Bool, true, false}
@@ -9,7 +9,7 @@ use lib.Dec.{eqb}
 use borrow.Author.Tests.{eq-eqb, ne-eqb, eqb-true, eqb-false}
 use Rattle.base.specs.Choice.{pick, within}
 use Rattle.base.proofs.Tests.{both-true, within-low, within-high, within-true, false≢true}
-use Rattle.geometry.specs.Geometry.{maxCylinders, maxHeads, maxSectors, geometryFits, capacityOf}
+use Rattle.geometry.specs.Geometry.{maxCylinders, maxHeads, geometryFits, capacityOf}
 use Rattle.geometry.specs.Translation.{factoryOf, headsAsked, cylindersFor, initializedOf, sameCylinders, translationAllowed, productOf}
 use Rattle.geometry.specs.declared.Geometry.{Geometry}
 use Rattle.geometry.specs.declared.Translation.{Translation}

@@ -1,6 +1,6 @@
 -- The factory geometry (document 01, "The disk and its three lives").
 use Prim.Native.Nat.{ℕ, _*_}
-use mathlib.Core.Bool.{Bool, true, false}
+use mathlib.Core.Bool.{Bool, false}
 use Rattle.base.specs.Choice.{pick, within}
 use Rattle.geometry.specs.declared.Geometry.{Geometry}
 use Rattle.geometry.specs.declared.Checked.{Checked}

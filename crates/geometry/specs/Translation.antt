@@ -1,6 +1,6 @@
 -- The translation that CHS addresses go by (document 01, "Commands", the line of 91h).
 use Prim.Native.Nat.{ℕ, _+_, _-_, _*_, _/_, _%_, min}
-use mathlib.Core.Bool.{Bool, true, false}
+use mathlib.Core.Bool.{Bool, false}
 use lib.Dec.{eqb}
 use Rattle.base.specs.Choice.{pick, within}
 use Rattle.geometry.specs.Geometry.{capacityOf}

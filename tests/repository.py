@@ -1,0 +1,150 @@
+#!/usr/bin/env python3
+"""What the prover does not look at: that the repository's parts agree with one another.
+
+    tests/repository.py LOG     (at the repository's root, after rt ci, whose output LOG holds)
+
+Each check gives a list of complaints; one complaint fails the run.
+"""
+import glob
+import os
+import re
+import subprocess
+import sys
+
+sys.path.insert(0, 'tools')
+import tidy  # noqa: E402
+
+LONGEST_FUNCTION = 40  # lines
+LONGEST_CHECK = 60  # seconds for one crate
+
+
+read = tidy.read
+
+
+def listed_crates():
+    lines = (line.split('#')[0].strip() for line in read('crates.txt').splitlines())
+    return [line.split(':')[0].strip() for line in lines if line]
+
+
+def crates_are_listed(_):
+    """crates.txt and crates/ name the same crates."""
+    there = {os.path.basename(path.rstrip('/')) for path in glob.glob('crates/*/')}
+    return [f'{name} stands in one of crates.txt and crates/ only' for name in there ^ set(listed_crates())]
+
+
+def layout_is_kept(_):
+    """Sources and proofs are laid out by rt fmt."""
+    done = subprocess.run(['rt', 'fmt', '--check'], capture_output=True, text=True)
+    return [] if done.returncode == 0 else [(done.stdout + done.stderr).strip()]
+
+
+def functions(path):
+    """(name, lines, public, has a requires) of each function of a source file, methods as Type::name."""
+    found, owner, start = [], '', None
+    for number, line in enumerate(read(path).splitlines(), 1):
+        if re.match(r'impl (\w+)', line):
+            owner = re.match(r'impl (\w+)', line).group(1) + '::'
+        m = re.match(r'( *)(pub )?(?:extern "C" )?fn (\w+)', line)
+        if m:
+            start = (number, m.group(1), (owner if m.group(1) else '') + m.group(3), bool(m.group(2)), False)
+        elif start and re.match(r' *requires', line):
+            start = start[:4] + (True,)
+        elif start and line == start[1] + '}':
+            found.append((start[2], number - start[0] + 1, start[3], start[4]))
+            start = None
+    return found
+
+
+def all_functions():
+    for path in sorted(glob.glob('crates/*/src/*.rt')):
+        for name, lines, public, required in functions(path):
+            yield path.split('/')[1] + '::' + name, lines, public, required
+
+
+def functions_are_short(_):
+    return [f'{name} has {lines} lines' for name, lines, _, _ in all_functions() if LONGEST_FUNCTION < lines]
+
+
+def crates_check_quickly(log):
+    """No crate takes longer than a minute."""
+    times = re.findall(r'^rt: (\w+) proved \((\d+) s\)', log, re.M)
+    missing = [f'no time for {name}' for name in listed_crates() if name not in dict(times)]
+    return missing + [f'{name} took {seconds} s' for name, seconds in times if LONGEST_CHECK < int(seconds)]
+
+
+def proofs_have_recipes(_):
+    """Each proof file of a function comes from a recipe, whose argument is its first line."""
+    complaints = []
+    for crate in listed_crates():
+        base = f'crates/{crate}/proofs'
+        text = read(f'{base}/recipes.txt') if os.path.exists(f'{base}/recipes.txt') else ''
+        recipes = dict(re.findall(r'^(\S+)\n  why +(.*)$', text, re.M))
+        files = {os.path.relpath(os.path.dirname(path), base) for path in glob.glob(f'{base}/**/Proof.antt', recursive=True)}
+        complaints += [f'{crate}: {name} has a recipe or a proof, not both' for name in files ^ set(recipes)]
+        for name in files & set(recipes):
+            if read(f'{base}/{name}/Proof.antt').splitlines()[0] != f'-- {recipes[name]}':
+                complaints.append(f'{crate}: {name} does not open with its argument')
+    return complaints
+
+
+def imports_are_used(_):
+    """No file brings a name in that it does not use (tools/tidy.py takes such names out)."""
+    return [f'{path}: {name}' for path in tidy.sources() for name in tidy.unused_names(path)]
+
+
+def edits_fail_by_a_fact(_):
+    """Each must-fail edit was refused because a fact fails, not because a proof file no longer fits the code."""
+    complaints = []
+    for edit in sorted(glob.glob('crates/*/must-fail/*.edit')):
+        crate, label = edit.split('/')[1], os.path.basename(edit)[:-5]
+        log = f'target/must-fail/{crate}/{label}/.log'
+        if not os.path.exists(log):
+            complaints.append(f'{crate}/{label} was not tried')
+            continue
+        errors = re.findall(r'^\S+: error: .*$|^fn .*`search` does not close .*$', read(log), re.M)
+        unfit = [e for e in errors if 'has no `Need-' in e or re.search(r'expected type `(tie\.)?Need-', e)]
+        facts = [e for e in errors if 'was not admitted' not in e]
+        if unfit or not facts:
+            complaints.append(f'{crate}/{label}: ' + (unfit or errors or ['no error'])[0][:200])
+        if not re.match(r'# \S', read(edit)):
+            complaints.append(f'{crate}/{label} does not say what slip it is')
+    return complaints
+
+
+def promises_name_every_call(_):
+    """docs/PROMISES.md has a row for each public function, and names those that ask something of their caller."""
+    text = read('docs/PROMISES.md')
+    rows = set(re.findall(r'^\| `([\w:]+)`', text, re.M))
+    asking = set(re.findall(r'^- `([\w:]+)` asks', text, re.M))
+    public = {name for name, _, public, _ in all_functions() if public}
+    required = {name for name, _, public, required in all_functions() if public and required}
+    complaints = [f'{name} has no row' for name in public - rows] + [f'{name} is no public function' for name in rows - public]
+    return complaints + [f'{name} asks something in one of source and PROMISES.md only' for name in required ^ asking]
+
+
+def rules_name_every_definition(_):
+    """docs/RULES.md names each definition of specs/, and nothing else in its last column."""
+    there = set()
+    for path in glob.glob('crates/*/specs/*.antt'):
+        there |= set(re.findall(r'^(?:abbrev |unfoldable )?pub (?:record )?(?!mod )([^\s:={(]+)', read(path), re.M))
+    cells = [row.split('|')[-2] for row in read('docs/RULES.md').splitlines() if re.match(r'\|.*\|$', row)]
+    named = {name for cell in cells for name in re.findall(r'`([^`]+)`', cell)}
+    return [f'{name} is in no rule' for name in there - named] + [f'{name} is no definition' for name in named - there]
+
+
+CHECKS = [crates_are_listed, layout_is_kept, functions_are_short, crates_check_quickly, proofs_have_recipes,
+          imports_are_used, edits_fail_by_a_fact, promises_name_every_call, rules_name_every_definition]
+
+
+def main():
+    log, bad = read(sys.argv[1]), 0
+    for check in CHECKS:
+        complaints = check(log)
+        bad += len(complaints)
+        print(f'repository: {check.__name__.replace("_", " ")}: ' + ('FAILED' if complaints else 'yes'))
+        for complaint in sorted(complaints):
+            print(f'  {complaint}')
+    sys.exit(1 if bad else 0)
+
+
+main()
