@@ -5,29 +5,26 @@ use native.Mathlib.Omega.{arith}
 use mathlib.Core.Bool.{Bool, true, false}
 use mathlib.Core.Path.{_≡_, refl, sym, ap}
 use lib.Dec.{ltb}
-use borrow.Author.Tests.{lt-ltb, le-ltb, ltb-true, eqb-false}
+use borrow.Author.Tests.{lt-ltb, le-ltb, ltb-true}
 use Rattle.base.specs.Choice.{pick, within}
-use Rattle.base.proofs.Tests.{within-low, within-high, within-true}
+use Rattle.base.proofs.Tests.{zero≢one, within-low, within-high, within-true}
 use Rattle.geometry.specs.Geometry.{capacityOf}
 use Rattle.geometry.specs.Translation.{translationAllowed, productOf}
 use Rattle.geometry.specs.declared.Geometry.{Geometry}
 use Rattle.geometry.specs.declared.Translation.{Translation}
 use Rattle.geometry.proofs.Translations.{product-below}
 use Rattle.address.specs.Registers.{lbaSelected, lbaOf, cylinderOf, headOf}
-use Rattle.address.specs.Address.{names, lbaAddress, chsNumber, chsAddress, addressOf, reachOf}
+use Rattle.address.specs.Address.{names, lbaAddress, chsAddress, addressOf, reachOf}
 use Rattle.address.specs.declared.AddressRegisters.{AddressRegisters}
 use Rattle.address.specs.declared.Sector.{Sector}
 use Rattle.address.specs.declared.Address.{Address}
 use Rattle.address.specs.declared.Address.the-variants.{Names, Faults}
-use Rattle.address.proofs.Chs.{Chs, chs-below}
+use Rattle.address.proofs.Chs.{ChsAt, chsNumberAt, chs-below}
 
 -- a choice that could have faulted and names a sector was made by a test that held
 named : (b : Bool) (x : Address) (a : Sector) → pick b x Faults ≡ Names a → (b ≡ true) × (x ≡ Names a)
 named true x a e = (refl, e)
-named false x a e = let z : _≡_ {A = ℕ} 0 1 = cc in absurd (eqb-false 0 1 refl z)
-
-faults-names : (a : Sector) → Faults ≡ Names a → ⊥
-faults-names a e = let z : _≡_ {A = ℕ} 0 1 = cc in omega arith
+named false x a e = absurd (zero≢one (cc))
 
 numbered : (n : ℕ) (a : Sector) → names n ≡ Names a → n ≡ a .number
 numbered n a e = let s : record { number = n } ≡ a = cc in ap (λ (x : Sector). x .number) s
@@ -49,12 +46,12 @@ lba-bad capacity r l = rw (le-ltb _ _ l)
 
 -- CHS
 pub chs-names : (t : Translation) (r : AddressRegisters) (a : Sector) → chsAddress t r ≡ Names a
-    → Chs t (cylinderOf r) (headOf r) (r .sector) × (a .number ≡ chsNumber t (cylinderOf r) (headOf r) (r .sector))
+    → ChsAt t r × (a .number ≡ chsNumberAt t r)
 unfolding chsAddress
 chs-names t r a e =
     let s = named (within 1 (t .sectors) (r .sector)) _ a e in
     let h = named (ltb (headOf r) (t .heads)) _ a (s .1) in
-    let c = named (ltb (cylinderOf r) (t .cylinders)) (names (chsNumber t (cylinderOf r) (headOf r) (r .sector))) a (h .1) in (
+    let c = named (ltb (cylinderOf r) (t .cylinders)) (names (chsNumberAt t r)) a (h .1) in (
       record {
         sector-low = within-low _ _ _ (s .0);
         sector-high = within-high _ _ _ (s .0);
@@ -64,14 +61,14 @@ chs-names t r a e =
       sym (numbered _ a (c .1)),
     )
 
-pub chs-good : (t : Translation) (r : AddressRegisters) → Chs t (cylinderOf r) (headOf r) (r .sector)
-    → chsAddress t r ≡ names (chsNumber t (cylinderOf r) (headOf r) (r .sector))
+pub chs-good : (t : Translation) (r : AddressRegisters) → ChsAt t r
+    → chsAddress t r ≡ names (chsNumberAt t r)
 unfolding chsAddress
 chs-good t r g =
     rw (within-true _ _ _ (g .sector-low) (g .sector-high), lt-ltb _ _ (g .head-below), lt-ltb _ _ (g .cylinder-below))
 
 -- exactly the other CHS addresses fault
-pub chs-bad : (t : Translation) (r : AddressRegisters) → (Chs t (cylinderOf r) (headOf r) (r .sector) → ⊥) → chsAddress t r ≡ Faults
+pub chs-bad : (t : Translation) (r : AddressRegisters) → (ChsAt t r → ⊥) → chsAddress t r ≡ Faults
 chs-bad t r bad = go (chsAddress t r) refl
   where
     go : (a : Address) → chsAddress t r ≡ a → chsAddress t r ≡ Faults

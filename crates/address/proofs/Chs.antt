@@ -5,7 +5,9 @@ use native.Mathlib.Omega.{arith}
 use mathlib.Core.Path.{_≡_, refl, sym, ap, _∙_}
 use Rattle.geometry.specs.Translation.{productOf}
 use Rattle.geometry.specs.declared.Translation.{Translation}
+use Rattle.address.specs.Registers.{cylinderOf, headOf}
 use Rattle.address.specs.Address.{chsNumber}
+use Rattle.address.specs.declared.AddressRegisters.{AddressRegisters}
 
 -- a good CHS address: "s from 1 to S, h below H, c below cylinders"
 pub record Chs (t : Translation) (c h s : ℕ) : Type 0 where
@@ -13,6 +15,13 @@ pub record Chs (t : Translation) (c h s : ℕ) : Type 0 where
   pub sector-high : s ≤ t .sectors
   pub head-below : h < t .heads
   pub cylinder-below : c < t .cylinders
+
+-- the address that registers hold is good, and its number
+abbrev pub ChsAt : Translation → AddressRegisters → Type 0
+ChsAt t r = Chs t (cylinderOf r) (headOf r) (r .sector)
+
+abbrev pub chsNumberAt : Translation → AddressRegisters → ℕ
+chsNumberAt t r = chsNumber t (cylinderOf r) (headOf r) (r .sector)
 
 -- a digit x below its base b, behind a below m, is below m * b
 digit-below : (a b x m : ℕ) → a < m → x < b → a * b + x < m * b

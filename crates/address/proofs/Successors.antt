@@ -21,11 +21,11 @@ use Rattle.address.specs.declared.AddressRegisters.{AddressRegisters}
 use Rattle.address.specs.declared.Sector.{Sector}
 use Rattle.address.specs.declared.Address.the-variants.{Names, Faults}
 use Rattle.address.proofs.RoundTrips.{lba-back, head-back, cylinder-back, high-nibble, nibble-mode}
-use Rattle.address.proofs.Chs.{Chs, chs-below}
+use Rattle.address.proofs.Chs.{Chs, ChsAt, chsNumberAt, chs-below}
 use Rattle.address.proofs.Addresses.{lba-names, lba-good, lba-bad, chs-names, chs-good, chs-bad}
 
--- the registers of the address that c, h and s are
-pub record At (r : AddressRegisters) (c h s : ℕ) : Type 0 where
+-- the registers hold cylinder c, head h and sector s
+pub record Holds (r : AddressRegisters) (c h s : ℕ) : Type 0 where
   pub cylinder-is : cylinderOf r ≡ c
   pub head-is : headOf r ≡ h
   pub sector-is : r .sector ≡ s
@@ -64,14 +64,14 @@ counts g t e =
 
 -- CHS: the successor is good and numbered one more, or the number was the last and the successor is c = cylinders, h = 0, s = 1
 record Next (t : Translation) (r q : AddressRegisters) : Type 0 where
-  good : Chs t (cylinderOf q) (headOf q) (q .sector)
-  more : chsNumber t (cylinderOf q) (headOf q) (q .sector) ≡ chsNumber t (cylinderOf r) (headOf r) (r .sector) + 1
+  good : ChsAt t q
+  more : chsNumberAt t q ≡ chsNumberAt t r + 1
 
 record Past (t : Translation) (r q : AddressRegisters) : Type 0 where
-  last : chsNumber t (cylinderOf r) (headOf r) (r .sector) + 1 ≡ productOf t
-  at : At q (t .cylinders) 0 1
+  last : chsNumberAt t r + 1 ≡ productOf t
+  at : Holds q (t .cylinders) 0 1
 
-next-sector : (t : Translation) (r : AddressRegisters) → Chs t (cylinderOf r) (headOf r) (r .sector) → r .sector < t .sectors
+next-sector : (t : Translation) (r : AddressRegisters) → ChsAt t r → r .sector < t .sectors
     → Next t r (withSector r (r .sector + 1))
 unfolding chsNumber cylinderOf headOf
 next-sector t r g l =
@@ -80,7 +80,7 @@ next-sector t r g l =
       more = omega (arith, g .sector-low);
     }
 
-next-head : (t : Translation) (r : AddressRegisters) → Counts t → Chs t (cylinderOf r) (headOf r) (r .sector) → t .sectors ≤ r .sector
+next-head : (t : Translation) (r : AddressRegisters) → Counts t → ChsAt t r → t .sectors ≤ r .sector
     → headOf r + 1 < t .heads → Next t r (withHead (withSector r 1) (headOf r + 1))
 unfolding chsNumber cylinderOf
 next-head t r k g l m =
@@ -97,7 +97,7 @@ next-head t r k g l m =
 
 -- head 0, sector 1 of the next cylinder
 first-of-next : (t : Translation) (r : AddressRegisters) → Counts t → cylinderOf r < t .cylinders
-    → At (withCylinder (withHead (withSector r 1) 0) (cylinderOf r + 1)) (cylinderOf r + 1) 0 1
+    → Holds (withCylinder (withHead (withSector r 1) 0) (cylinderOf r + 1)) (cylinderOf r + 1) 0 1
 unfolding headOf
 first-of-next t r k l =
     record {
@@ -119,8 +119,8 @@ first-number : (t : Translation) (c : ℕ) → chsNumber t c 0 1 ≡ c * t .head
 unfolding chsNumber
 first-number t c = rw (add-zero (c * t .heads)) (omega arith)
 
-next-cylinder : (t : Translation) (r q : AddressRegisters) → Chs t (cylinderOf r) (headOf r) (r .sector) → t .sectors ≤ r .sector
-    → t .heads ≤ headOf r + 1 → cylinderOf r + 1 < t .cylinders → At q (cylinderOf r + 1) 0 1 → Next t r q
+next-cylinder : (t : Translation) (r q : AddressRegisters) → ChsAt t r → t .sectors ≤ r .sector
+    → t .heads ≤ headOf r + 1 → cylinderOf r + 1 < t .cylinders → Holds q (cylinderOf r + 1) 0 1 → Next t r q
 next-cylinder t r q g l m n a =
     record {
       good = rw (a .cylinder-is, a .head-is, a .sector-is)
@@ -133,8 +133,8 @@ next-cylinder t r q g l m n a =
       more = rw (a .cylinder-is, a .head-is, a .sector-is) (first-number t (cylinderOf r + 1) ∙ sym (cylinder-end t (cylinderOf r) (headOf r) (r .sector) g l m));
     }
 
-past-end : (t : Translation) (r q : AddressRegisters) → Chs t (cylinderOf r) (headOf r) (r .sector) → t .sectors ≤ r .sector
-    → t .heads ≤ headOf r + 1 → t .cylinders ≤ cylinderOf r + 1 → At q (cylinderOf r + 1) 0 1 → Past t r q
+past-end : (t : Translation) (r q : AddressRegisters) → ChsAt t r → t .sectors ≤ r .sector
+    → t .heads ≤ headOf r + 1 → t .cylinders ≤ cylinderOf r + 1 → Holds q (cylinderOf r + 1) 0 1 → Past t r q
 unfolding productOf
 past-end t r q g l m n a =
     let c : cylinderOf r + 1 ≡ t .cylinders = omega (arith, g .cylinder-below) in
@@ -143,7 +143,7 @@ past-end t r q g l m n a =
       at = record { cylinder-is = a .cylinder-is ∙ c; head-is = a .head-is; sector-is = a .sector-is };
     }
 
-chs-next : (t : Translation) (r : AddressRegisters) → Counts t → Chs t (cylinderOf r) (headOf r) (r .sector)
+chs-next : (t : Translation) (r : AddressRegisters) → Counts t → ChsAt t r
     → Next t r (chsSuccessor t r) ⊎ Past t r (chsSuccessor t r)
 unfolding chsSuccessor
 chs-next t r k g = sector (ltb (r .sector) (t .sectors)) refl
@@ -188,7 +188,7 @@ after-chs : (g : Geometry) (t : Translation) (r : AddressRegisters) (a : Sector)
 unfolding addressOf successorOf reachOf
 after-chs g t r a f e n = go (chs-next t r (counts g t f) (old .0))
   where
-    old : Chs t (cylinderOf r) (headOf r) (r .sector) × (a .number ≡ chsNumber t (cylinderOf r) (headOf r) (r .sector))
+    old : ChsAt t r × (a .number ≡ chsNumberAt t r)
     old = chs-names t r a (rw e at n)
 
     mode : lbaSelected (chsSuccessor t r) ≡ false
@@ -196,7 +196,7 @@ after-chs g t r a f e n = go (chs-next t r (counts g t f) (old .0))
 
     go : Next t r (chsSuccessor t r) ⊎ Past t r (chsSuccessor t r) → After g t r a
     go (inl x) =
-        let m : chsNumber t (cylinderOf (chsSuccessor t r)) (headOf (chsSuccessor t r)) (chsSuccessor t r .sector) ≡ a .number + 1 =
+        let m : chsNumberAt t (chsSuccessor t r) ≡ a .number + 1 =
         x .more ∙ ap (λ (k : ℕ). k + 1) (sym (old .1)) in
         record {
           next = λ l. rw (e, mode) (chs-good t (chsSuccessor t r) (x .good) ∙ ap names m);
@@ -245,14 +245,14 @@ lba-past g t r a f e n l =
 
 -- in CHS the registers c = cylinders, h = 0, s = 1
 pub chs-past : (g : Geometry) (t : Translation) (r : AddressRegisters) (a : Sector) → translationAllowed g t ≡ true → lbaSelected r ≡ false
-    → addressOf g t r ≡ Names a → a .number + 1 ≡ productOf t → At (successorOf t r) (t .cylinders) 0 1
+    → addressOf g t r ≡ Names a → a .number + 1 ≡ productOf t → Holds (successorOf t r) (t .cylinders) 0 1
 unfolding addressOf successorOf
 chs-past g t r a f e n l = rw e (go (chs-next t r (counts g t f) (old .0)))
   where
-    old : Chs t (cylinderOf r) (headOf r) (r .sector) × (a .number ≡ chsNumber t (cylinderOf r) (headOf r) (r .sector))
+    old : ChsAt t r × (a .number ≡ chsNumberAt t r)
     old = chs-names t r a (rw e at n)
 
-    go : Next t r (chsSuccessor t r) ⊎ Past t r (chsSuccessor t r) → At (chsSuccessor t r) (t .cylinders) 0 1
+    go : Next t r (chsSuccessor t r) ⊎ Past t r (chsSuccessor t r) → Holds (chsSuccessor t r) (t .cylinders) 0 1
     go (inl x) = absurd (early (x .more) (chs-below (x .good)) (old .1))
       where
         early : {j k : ℕ} → j ≡ k + 1 → j < productOf t → a .number ≡ k → ⊥

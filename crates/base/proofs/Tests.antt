@@ -24,9 +24,12 @@ told-false b r e h = sym e ∙ h
 
 pub ruleset picks = (picked-true, picked-false, told-true, told-false, lt-ltb, le-ltb, le-leb, lt-leb, eq-eqb, ne-eqb)
 
--- false is not true
+-- what follows where two different constructors would be equal: `cc` shows 0 ≡ 1 from that
+pub zero≢one : _≡_ {A = ℕ} 0 1 → ⊥
+zero≢one z = omega arith
+
 pub false≢true : false ≡ true → ⊥
-false≢true q = let z : _≡_ {A = ℕ} 0 1 = cc in omega arith
+false≢true q = zero≢one (cc)
 
 -- a choice against false is true exactly where both tests are
 pub both-true : (a b : Bool) → pick a b false ≡ true → (a ≡ true) × (b ≡ true)

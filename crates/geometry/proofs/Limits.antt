@@ -5,7 +5,7 @@ use native.Mathlib.Omega.{arith}
 use mathlib.Core.Bool.{Bool, true, false}
 use mathlib.Core.Path.{_≡_, refl}
 use Rattle.base.specs.Choice.{pick, within}
-use Rattle.base.proofs.Tests.{both-true, within-low, within-high, within-true}
+use Rattle.base.proofs.Tests.{zero≢one, both-true, within-low, within-high, within-true}
 use Rattle.geometry.specs.Geometry.{maxCylinders, maxHeads, maxSectors, maxCapacity, geometryFits, checkedOf, capacityOf}
 use Rattle.geometry.specs.declared.Geometry.{Geometry}
 use Rattle.geometry.specs.declared.Checked.the-variants.{Within, OutsideLimits}
@@ -52,10 +52,7 @@ checked-within c h s g e = go (geometryFits (record { cylinders = c; heads = h; 
         → pick b (Within (record { cylinders = c; heads = h; sectors = s })) OutsideLimits ≡ Within g
         → (g ≡ record { cylinders = c; heads = h; sectors = s }) × Limits c h s
     go true p q = (cc, fits-limits (record { cylinders = c; heads = h; sectors = s }) p)
-    go false p q = let z : _≡_ {A = ℕ} 0 1 = cc in absurd (never z)
-      where
-        never : _≡_ {A = ℕ} 0 1 → ⊥
-        never z = omega arith
+    go false p q = absurd (zero≢one (cc))
 
 -- what is refused is outside the limits
 pub checked-outside : (c h s : ℕ) → checkedOf c h s ≡ OutsideLimits → Limits c h s → ⊥
@@ -63,7 +60,7 @@ unfolding checkedOf
 checked-outside c h s e l =
     let f = limits-fit (record { cylinders = c; heads = h; sectors = s }) l in
     let q : Within (record { cylinders = c; heads = h; sectors = s }) ≡ OutsideLimits = simp f at e in
-    let z : _≡_ {A = ℕ} 0 1 = cc in omega arith
+    zero≢one (cc)
 
 pub capacity-limits : (g : Geometry) → geometryFits g ≡ true → (1 ≤ capacityOf g) × (capacityOf g ≤ maxCapacity)
 unfolding capacityOf maxCapacity

@@ -8,7 +8,7 @@ use mathlib.Core.Logic.{_⊎_, inl, inr}
 use lib.Dec.{eqb}
 use borrow.Author.Tests.{eq-eqb, ne-eqb, eqb-true, eqb-false}
 use Rattle.base.specs.Choice.{pick, within}
-use Rattle.base.proofs.Tests.{both-true, within-low, within-high, within-true, false≢true}
+use Rattle.base.proofs.Tests.{zero≢one, both-true, within-low, within-high, within-true, false≢true}
 use Rattle.geometry.specs.Geometry.{maxCylinders, maxHeads, geometryFits, capacityOf}
 use Rattle.geometry.specs.Translation.{factoryOf, headsAsked, cylindersFor, initializedOf, sameCylinders, translationAllowed, productOf}
 use Rattle.geometry.specs.declared.Geometry.{Geometry}
@@ -34,8 +34,8 @@ initialized-to g s head t e = go (eqb s 0) (eqb (cylindersFor g (headsAsked head
 
     go : (a b : Bool) → eqb s 0 ≡ a → eqb (cylindersFor g (headsAsked head) s) 0 ≡ b
         → pick a Aborted (pick b Aborted (To made)) ≡ To t → Asked g (headsAsked head) s t
-    go true b p q r = let z : _≡_ {A = ℕ} 0 1 = cc in absurd (eqb-false 0 1 refl z)
-    go false true p q r = let z : _≡_ {A = ℕ} 0 1 = cc in absurd (eqb-false 0 1 refl z)
+    go true b p q r = absurd (zero≢one (cc))
+    go false true p q r = absurd (zero≢one (cc))
     go false false p q r =
         let m : made ≡ t = cc in
         let u : s ≡ 0 → ⊥ = eqb-false s 0 p in
@@ -67,7 +67,7 @@ initialized-aborted g s head e = go (eqb s 0) (eqb (cylindersFor g (headsAsked h
         → pick a Aborted (pick b Aborted (To made)) ≡ Aborted → (s ≡ 0) ⊎ (cylindersFor g (headsAsked head) s ≡ 0)
     go true b p q r = inl (eqb-true s 0 p)
     go false true p q r = inr (eqb-true _ 0 q)
-    go false false p q r = let z : _≡_ {A = ℕ} 0 1 = cc in absurd (eqb-false 0 1 refl z)
+    go false false p q r = absurd (zero≢one (cc))
 
 -- an allowed translation is what 91h makes of its own heads and sectors
 pub allowed-asked : (g : Geometry) (t : Translation) → translationAllowed g t ≡ true
