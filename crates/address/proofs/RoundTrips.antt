@@ -7,7 +7,7 @@ use Rattle.address.specs.Registers.{lbaSelected, lbaOf, cylinderOf, head
 use Rattle.address.specs.declared.AddressRegisters.{AddressRegisters}
 
 pub lba-back : (r : AddressRegisters) (n : ℕ) → n < 2 ^ 28 → lbaOf (withLba r n) ≡ n
-unfolding lbaOf
+unfolding lbaOf headOf
 lba-back r n h = omega arith
 
 pub cylinder-back : (r : AddressRegisters) (c : ℕ) → c < 2 ^ 16 → cylinderOf (withCylinder r c) ≡ c
@@ -33,7 +33,7 @@ same-registers r q a b c d =
     let e : registers (r .sector) (r .low) (r .high) (r .head) ≡ registers (q .sector) (q .low) (q .high) (q .head) = cc in e
 
 pub lba-put-back : (r : AddressRegisters) → Bytes r → withLba r (lbaOf r) ≡ r
-unfolding lbaOf
+unfolding lbaOf headOf
 lba-put-back r b = same-registers _ r (omega arith) (omega arith) (omega arith) (omega arith)
 
 pub cylinder-put-back : (r : AddressRegisters) → Bytes r → withCylinder r (cylinderOf r) ≡ r

@@ -14,7 +14,7 @@ headOf r = r .head % 16
 
 -- "28 bits, Sector Number lowest, head nibble highest"
 unfoldable pub lbaOf : AddressRegisters → ℕ
-lbaOf r = r .sector + 256 * r .low + 65536 * r .high + 16777216 * (r .head % 16)
+lbaOf r = r .sector + 256 * r .low + 65536 * r .high + 16777216 * headOf r
 
 -- Cylinder Low and Cylinder High
 unfoldable pub cylinderOf : AddressRegisters → ℕ

@@ -13,11 +13,13 @@ use Rattle.base.specs.Choice.{pick}
 use Rattle.base.proofs.Tests.{both-true, false≢true}
 use Rattle.block.specs.Passwords.{same}
 
+-- equal lists are the same
 pub same-refl : (xs : List ℕ) → same xs xs ≡ true
 unfolding same
 same-refl [] = refl
 same-refl (x ∷ xs) = rw (eq-eqb x x refl) (same-refl xs)
 
+-- and only they are
 pub same-true : (xs ys : List ℕ) → same xs ys ≡ true → xs ≡ ys
 unfolding same
 same-true [] [] e = refl
@@ -28,6 +30,9 @@ same-true (x ∷ xs) (y ∷ ys) e =
     let p : x ≡ y = eqb-true x y (b .0) in
     let q : xs ≡ ys = same-true xs ys (b .1) in
     cc
+
+pub same-false : (xs ys : List ℕ) → same xs ys ≡ false → xs ≡ ys → ⊥
+same-false xs ys e q = false≢true (sym e ∙ ap (λ (zs : List ℕ). same xs zs) (sym q) ∙ same-refl xs)
 
 -- n bytes of each, of which i have been compared: `equal` says whether those agreed
 pub record Compared (n : ℕ) (p q : List ℕ) (equal : Bool) (i : ℕ) : Type 0 where

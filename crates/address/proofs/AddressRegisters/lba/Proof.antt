@@ -1,5 +1,5 @@
 -- Four bytes' worth of a 28-bit number fit 32 bits.
-use Rattle.address.specs.Registers.{lbaOf}
+use Rattle.address.specs.Registers.{headOf, lbaOf}
 use borrow.Author.Needs.{needs}
 use Rattle.address.proofs.AddressRegisters.lba.Statement.{statement}
 use Rattle.address.proofs.AddressRegisters.lba.Tie as tie
@@ -35,7 +35,7 @@ add-result-3 : tie.Need-add-result-3
 add-result-3 c = search needs
 
 returns : tie.Need-returns
-unfolding lbaOf
+unfolding lbaOf headOf
 returns c = search needs
 
 pub lba-spec : {M : Type 1} → statement M

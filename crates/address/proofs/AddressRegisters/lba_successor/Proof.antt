@@ -1,5 +1,5 @@
 -- A 28-bit number and one more fit 32 bits.
-use Rattle.address.specs.Registers.{lbaOf}
+use Rattle.address.specs.Registers.{headOf, lbaOf}
 use Rattle.address.specs.Successor.{lbaSuccessor}
 use borrow.Author.Needs.{needs}
 use native.Mathlib.Omega.{arith}
@@ -10,8 +10,8 @@ lba-requires : tie.Need-lba-requires
 lba-requires c κs = search needs
 
 add-with-lba : tie.Need-add-with-lba
-unfolding lbaOf
-add-with-lba c = omega (arith, (c .lba) .ensures)
+unfolding lbaOf headOf
+add-with-lba c = omega (arith, c .lba .ensures)
 
 with-lba-requires : tie.Need-with-lba-requires
 with-lba-requires c κs = search needs
