@@ -184,7 +184,7 @@ def modules_of_names(crate):
     for path in sorted(glob.glob('crates/*/specs/*.antt') + glob.glob('crates/*/proofs/*.antt')):
         owner, part, name = re.match(r'crates/(\w+)/(specs|proofs)/(\w+)\.antt', path).groups()
         module = f'Rattle.{crate}.{part}.{name}' if owner == crate else f'Rattle.{owner}.{part}.{name}'
-        for m in re.finditer(r'^(?:abbrev |unfoldable )?pub (?:ruleset |record )?([^\s:={(]+)', read(path), re.M):
+        for m in re.finditer(r'^(?:abbrev |unfoldable )?pub (?:ruleset |record )?(?!mod )([^\s:={(]+)', read(path), re.M):
             where[m.group(1)] = module
     return where
 
@@ -282,19 +282,32 @@ def asked_for(words):
     return words[0], recipes, words[1:] or list(recipes)
 
 
-def main():
-    crate, recipes, pending = asked_for(sys.argv[1:])
-    for function in pending:
-        if os.path.exists(f'crates/{crate}/proofs/{function}/Proof.antt'):
-            os.remove(f'crates/{crate}/proofs/{function}/Proof.antt')
-    context, made = (calls_of_all_crates(), modules_of_names(crate)), []
+def errors_in(log):
+    return [line[:400] for line in log.splitlines() if re.search(r'^fn .*no proof|: error', line)]
+
+
+def take_away(crate, pending):
+    """Removes the proof files that are to be made anew; {path: text} of what they were."""
+    paths = [f'crates/{crate}/proofs/{function}/Proof.antt' for function in pending]
+    were = {path: read(path) for path in paths if os.path.exists(path)}
+    for path in were:
+        os.remove(path)
+    return were
+
+
+def make(crate, recipes, pending):
+    """Writes the pending proofs as the check prints their lines: a caller's come once its callees with loops are proved."""
+    were, made = take_away(crate, pending), []
+    context = calls_of_all_crates(), modules_of_names(crate)
     log = check(crate)
     while pending:
-        # a caller's lines are printed once its callees with loops have their proofs
         found = {f: lines for f, lines in skeletons(log, crate).items() if f in pending}
         if not found:
-            print(log)
-            fail('the check printed no lines for ' + ', '.join(pending))
+            for path, text in were.items():
+                if not os.path.exists(path):
+                    with open(path, 'w', encoding='utf8') as f:
+                        f.write(text)
+            fail('the check printed no lines for ' + ', '.join(pending) + '\n' + '\n'.join(errors_in(log)))
         if any('{' in answer for f in found for answer in recipes[f].values()):
             run('rt', 'goals', crate)
         for function, lines in found.items():
@@ -302,11 +315,16 @@ def main():
             made[-1].write()
             pending.remove(function)
         log = check(crate)
+    return made, log
+
+
+def main():
+    crate, recipes, pending = asked_for(sys.argv[1:])
+    made, log = make(crate, recipes, pending)
     for proof in [proof for proof in made if proof.drop_unused(log)]:
         proof.write()
     run('rt', 'fmt')
-    log = check(crate)
-    errors = [line[:400] for line in log.splitlines() if re.search(r'^fn .*no proof|: error', line)]
+    errors = errors_in(check(crate))
     print('\n'.join(errors) or f'{crate}: {len(made)} proofs written, every function proved')
     sys.exit(1 if errors else 0)
 
