@@ -6,7 +6,7 @@ use mathlib.Core.Bool.{Bool, true, false}
 use mathlib.Core.Path.{_≡_, refl}
 use Rattle.base.specs.Choice.{pick, within}
 use Rattle.base.proofs.Tests.{zero≢one, both-true, within-low, within-high, within-true}
-use Rattle.geometry.specs.Geometry.{maxCylinders, maxHeads, maxSectors, maxCapacity, geometryFits, checkedOf, capacityOf}
+use Rattle.geometry.specs.Geometry.{maxCylinders, maxHeads, maxSectors, maxCapacity, geometryFits, geometryOf, checkedOf, capacityOf}
 use Rattle.geometry.specs.declared.Geometry.{Geometry}
 use Rattle.geometry.specs.declared.Checked.the-variants.{Within, OutsideLimits}
 
@@ -44,22 +44,22 @@ limits-fit g l =
 
 -- what is made has the counts that were asked for
 pub checked-within : (c h s : ℕ) (g : Geometry) → checkedOf c h s ≡ Within g
-    → (g ≡ record { cylinders = c; heads = h; sectors = s }) × Limits c h s
+    → (g ≡ geometryOf c h s) × Limits c h s
 unfolding checkedOf
-checked-within c h s g e = go (geometryFits (record { cylinders = c; heads = h; sectors = s })) refl e
+checked-within c h s g e = go (geometryFits (geometryOf c h s)) refl e
   where
-    go : (b : Bool) → geometryFits (record { cylinders = c; heads = h; sectors = s }) ≡ b
-        → pick b (Within (record { cylinders = c; heads = h; sectors = s })) OutsideLimits ≡ Within g
-        → (g ≡ record { cylinders = c; heads = h; sectors = s }) × Limits c h s
-    go true p q = (cc, fits-limits (record { cylinders = c; heads = h; sectors = s }) p)
+    go : (b : Bool) → geometryFits (geometryOf c h s) ≡ b
+        → pick b (Within (geometryOf c h s)) OutsideLimits ≡ Within g
+        → (g ≡ geometryOf c h s) × Limits c h s
+    go true p q = (cc, fits-limits (geometryOf c h s) p)
     go false p q = absurd (zero≢one (cc))
 
 -- what is refused is outside the limits
 pub checked-outside : (c h s : ℕ) → checkedOf c h s ≡ OutsideLimits → Limits c h s → ⊥
 unfolding checkedOf
 checked-outside c h s e l =
-    let f = limits-fit (record { cylinders = c; heads = h; sectors = s }) l in
-    let q : Within (record { cylinders = c; heads = h; sectors = s }) ≡ OutsideLimits = simp f at e in
+    let f = limits-fit (geometryOf c h s) l in
+    let q : Within (geometryOf c h s) ≡ OutsideLimits = simp f at e in
     zero≢one (cc)
 
 pub capacity-limits : (g : Geometry) → geometryFits g ≡ true → (1 ≤ capacityOf g) × (capacityOf g ≤ maxCapacity)

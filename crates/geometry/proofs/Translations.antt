@@ -10,7 +10,7 @@ use borrow.Author.Tests.{eq-eqb, ne-eqb, eqb-true, eqb-false}
 use Rattle.base.specs.Choice.{pick, within}
 use Rattle.base.proofs.Tests.{zero≢one, both-true, within-low, within-high, within-true, false≢true}
 use Rattle.geometry.specs.Geometry.{maxCylinders, maxHeads, geometryFits, capacityOf}
-use Rattle.geometry.specs.Translation.{factoryOf, headsAsked, cylindersFor, initializedOf, sameCylinders, translationAllowed, productOf}
+use Rattle.geometry.specs.Translation.{factoryOf, headsAsked, cylindersFor, translationOf, initializedOf, sameCylinders, translationAllowed, productOf}
 use Rattle.geometry.specs.declared.Geometry.{Geometry}
 use Rattle.geometry.specs.declared.Translation.{Translation}
 use Rattle.geometry.specs.declared.Initialized.{Initialized}
@@ -25,31 +25,28 @@ pub record Asked (g : Geometry) (h s : ℕ) (t : Translation) : Type 0 where
   pub some-sectors : 1 ≤ s
   pub some-cylinders : 1 ≤ cylindersFor g h s
 
+-- what 91h makes is what was asked for
 pub initialized-to : (g : Geometry) (s head : ℕ) (t : Translation) → initializedOf g s head ≡ To t → Asked g (headsAsked head) s t
 unfolding initializedOf
 initialized-to g s head t e = go (eqb s 0) (eqb (cylindersFor g (headsAsked head) s) 0) refl refl e
   where
-    made : Translation
-    made = record { cylinders = cylindersFor g (headsAsked head) s; heads = headsAsked head; sectors = s }
-
     go : (a b : Bool) → eqb s 0 ≡ a → eqb (cylindersFor g (headsAsked head) s) 0 ≡ b
-        → pick a Aborted (pick b Aborted (To made)) ≡ To t → Asked g (headsAsked head) s t
+        → pick a Aborted (pick b Aborted (To (translationOf g (headsAsked head) s))) ≡ To t → Asked g (headsAsked head) s t
     go true b p q r = absurd (zero≢one (cc))
     go false true p q r = absurd (zero≢one (cc))
     go false false p q r =
-        let m : made ≡ t = cc in
+        let m : translationOf g (headsAsked head) s ≡ t = cc in
         let u : s ≡ 0 → ⊥ = eqb-false s 0 p in
         let v : cylindersFor g (headsAsked head) s ≡ 0 → ⊥ = eqb-false _ 0 q in
         record { heads = cc; sectors = cc; cylinders = cc; some-sectors = omega arith; some-cylinders = omega arith }
 
--- what 91h makes, as a term
+-- and what is asked for with some sectors and some cylinders is made
 pub to-initialized : (g : Geometry) (s head : ℕ) (t : Translation) → Asked g (headsAsked head) s t → initializedOf g s head ≡ To t
 unfolding initializedOf
 to-initialized g s head t a =
     let u : s ≡ 0 → ⊥ = λ q. absent (a .some-sectors) q in
     let v : cylindersFor g (headsAsked head) s ≡ 0 → ⊥ = λ q. absent (a .some-cylinders) q in
-    let m : To (record { cylinders = cylindersFor g (headsAsked head) s; heads = headsAsked head; sectors = s }) ≡ To t =
-    rw (← a .cylinders, ← a .heads, ← a .sectors) in
+    let m : To (translationOf g (headsAsked head) s) ≡ To t = rw (← a .cylinders, ← a .heads, ← a .sectors) in
     simp (ne-eqb s 0 u, ne-eqb (cylindersFor g (headsAsked head) s) 0 v) m
   where
     absent : {n : ℕ} → 1 ≤ n → n ≡ 0 → ⊥
@@ -60,14 +57,15 @@ pub initialized-aborted : (g : Geometry) (s head : ℕ) → initializedOf g s he
 unfolding initializedOf
 initialized-aborted g s head e = go (eqb s 0) (eqb (cylindersFor g (headsAsked head) s) 0) refl refl e
   where
-    made : Translation
-    made = record { cylinders = cylindersFor g (headsAsked head) s; heads = headsAsked head; sectors = s }
-
     go : (a b : Bool) → eqb s 0 ≡ a → eqb (cylindersFor g (headsAsked head) s) 0 ≡ b
-        → pick a Aborted (pick b Aborted (To made)) ≡ Aborted → (s ≡ 0) ⊎ (cylindersFor g (headsAsked head) s ≡ 0)
+        → pick a Aborted (pick b Aborted (To (translationOf g (headsAsked head) s))) ≡ Aborted → (s ≡ 0) ⊎ (cylindersFor g (headsAsked head) s ≡ 0)
     go true b p q r = inl (eqb-true s 0 p)
     go false true p q r = inr (eqb-true _ 0 q)
     go false false p q r = absurd (zero≢one (cc))
+
+-- heads that a nibble can ask for
+own-nibble : (h : ℕ) → 1 ≤ h → h ≤ 16 → headsAsked (h - 1) ≡ h
+own-nibble h low high = omega arith
 
 -- an allowed translation is what 91h makes of its own heads and sectors
 pub allowed-asked : (g : Geometry) (t : Translation) → translationAllowed g t ≡ true
@@ -84,12 +82,9 @@ allowed-asked g t e = (low, (high, go (initializedOf g (t .sectors) (t .heads - 
     high : t .heads ≤ 16
     high = within-high _ _ _ (b .0)
 
-    nibble : headsAsked (t .heads - 1) ≡ t .heads
-    nibble = omega (arith, low, high)
-
     go : (i : Initialized) → initializedOf g (t .sectors) (t .heads - 1) ≡ i → sameCylinders t i ≡ true → Asked g (t .heads) (t .sectors) t
     go (To made) p q =
-        let a = rw nibble at (initialized-to g (t .sectors) (t .heads - 1) made p) in
+        let a = rw (own-nibble (t .heads) low high) at (initialized-to g (t .sectors) (t .heads - 1) made p) in
         let c : made .cylinders ≡ t .cylinders = eqb-true _ _ q in
         record { heads = refl; sectors = refl; cylinders = sym c ∙ a .cylinders; some-sectors = a .some-sectors; some-cylinders = a .some-cylinders }
     go Aborted p q = absurd (false≢true q)
@@ -98,16 +93,15 @@ pub asked-allowed : (g : Geometry) (t : Translation) → 1 ≤ t .heads → t .h
     → translationAllowed g t ≡ true
 unfolding translationAllowed
 asked-allowed g t low high a =
-    let nibble : headsAsked (t .heads - 1) ≡ t .heads = omega arith in
-    let i : initializedOf g (t .sectors) (t .heads - 1) ≡ To t = to-initialized g (t .sectors) (t .heads - 1) t (rw nibble a) in
+    let i : initializedOf g (t .sectors) (t .heads - 1) ≡ To t =
+    to-initialized g (t .sectors) (t .heads - 1) t (rw (own-nibble (t .heads) low high) a) in
     simp (within-true 1 16 (t .heads) low high, i, eq-eqb (t .cylinders) (t .cylinders) refl)
 
 -- so "one that 91h allows" is: 91h makes it of some Sector Count and Device/Head
 pub allowed-made : (g : Geometry) (t : Translation) → translationAllowed g t ≡ true → initializedOf g (t .sectors) (t .heads - 1) ≡ To t
 allowed-made g t e =
     let a = allowed-asked g t e in
-    let nibble : headsAsked (t .heads - 1) ≡ t .heads = omega (arith, a .0, a .1 .0) in
-    to-initialized g (t .sectors) (t .heads - 1) t (rw nibble (a .1 .1))
+    to-initialized g (t .sectors) (t .heads - 1) t (rw (own-nibble (t .heads) (a .0) (a .1 .0)) (a .1 .1))
 
 pub made-allowed : (g : Geometry) (s head : ℕ) (t : Translation) → initializedOf g s head ≡ To t → translationAllowed g t ≡ true
 made-allowed g s head t e =

@@ -29,12 +29,13 @@ geometryFits g =
     (pick (within 1 maxHeads (g .heads)) (within 1 maxSectors (g .sectors)) false)
     false
 
+-- the three counts as a geometry's
+abbrev pub geometryOf : ℕ → ℕ → ℕ → Geometry
+geometryOf c h s = record { cylinders = c; heads = h; sectors = s }
+
 -- "A geometry is made from three counts", or they are outside the limits
 unfoldable pub checkedOf : ℕ → ℕ → ℕ → Checked
-checkedOf c h s =
-    pick (geometryFits (record { cylinders = c; heads = h; sectors = s }))
-    (Within (record { cylinders = c; heads = h; sectors = s }))
-    OutsideLimits
+checkedOf c h s = pick (geometryFits (geometryOf c h s)) (Within (geometryOf c h s)) OutsideLimits
 
 -- "Capacity is C x H x S"
 unfoldable pub capacityOf : Geometry → ℕ

@@ -21,13 +21,15 @@ headsAsked head = head % 16 + 1
 unfoldable pub cylindersFor : Geometry → ℕ → ℕ → ℕ
 cylindersFor g h s = min (capacityOf g / (h * s)) 65535
 
+-- the translation of so many heads and sectors
+abbrev pub translationOf : Geometry → ℕ → ℕ → Translation
+translationOf g h s = record { cylinders = cylindersFor g h s; heads = h; sectors = s }
+
 -- "S = Sector Count 1 to 255 .. abort if S or cylinders is 0"
 unfoldable pub initializedOf : Geometry → ℕ → ℕ → Initialized
 initializedOf g s head =
     pick (eqb s 0) Aborted
-    (pick (eqb (cylindersFor g (headsAsked head) s) 0) Aborted
-    (To
-    (record { cylinders = cylindersFor g (headsAsked head) s; heads = headsAsked head; sectors = s })))
+    (pick (eqb (cylindersFor g (headsAsked head) s) 0) Aborted (To (translationOf g (headsAsked head) s)))
 
 -- the translation that 91h made has as many cylinders as t
 abbrev pub sameCylinders : Translation → Initialized → Bool
