@@ -15,8 +15,9 @@ part() { # NAME COMMAND..
     "$@"
     status=$?
     took=$(($(date +%s) - began))
-    parts+=$(printf '%-22s %3d min %02d s   %s' "$name" $((took / 60)) $((took % 60)) "$([ "$status" -eq 0 ] && echo passed || echo FAILED)")$'\n'
-    [ "$status" -eq 0 ] || failed=$((failed + 1))
+    local word=passed
+    [ "$status" -eq 0 ] || { word=FAILED failed=$((failed + 1)); }
+    parts+=$(printf '%-22s %3d min %02d s   %s' "$name" $((took / 60)) $((took % 60)) "$word")$'\n'
 }
 
 # Everything that rt ci prints but its verdict, which is kept for the end.

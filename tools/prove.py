@@ -14,8 +14,11 @@ answered by `search needs`. What is not mechanical stands in crates/CRATE/proofs
 Left is a need, or a pattern that names several; right its answer, which may go on over lines that are indented more.
   unfolding A B;   the definitions that the answer opens
   {thing}          the path, at that need, to what a call, a test, a loop or an arm told: `c .before .thing`
-  {path}           `simp` over all that the way to that need told, in the order of the code
+  {path}           `simp` over all that the calls, tests and arms on the way to that need told
 Needs without an answer get `search needs`. For a loop, `Inv-loop` and `μ-loop` are answered too.
+
+What a call tells goes by its result's type, which is looked up by the function's bare name over all crates: two functions
+of one name need one kind of result. Names of the kit that an answer cites stand in KIT below.
 """
 import fnmatch
 import glob
