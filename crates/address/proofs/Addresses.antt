@@ -75,6 +75,14 @@ chs-bad t r bad = go (chsAddress t r) refl
     go (Names a) e = absurd (bad (chs-names t r a e .0))
     go Faults e = e
 
+-- "sector 0 faults", on every disk, in every translation
+pub sector-0-faults : (g : Geometry) (t : Translation) (r : AddressRegisters) → lbaSelected r ≡ false → r .sector ≡ 0 → addressOf g t r ≡ Faults
+unfolding addressOf
+sector-0-faults g t r e z = rw e (chs-bad t r (λ c. none (c .sector-low) z))
+  where
+    none : {n : ℕ} → 1 ≤ n → n ≡ 0 → ⊥
+    none p q = omega arith
+
 -- a named sector is among those that addresses of its kind reach
 pub address-reach : (g : Geometry) (t : Translation) (r : AddressRegisters) (a : Sector) → addressOf g t r ≡ Names a → a .number < reachOf g t r
 unfolding addressOf reachOf

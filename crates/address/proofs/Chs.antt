@@ -2,7 +2,7 @@
 use Prim.Native.Nat.{ℕ, suc, zero, _+_, _-_, _*_, _/_, _%_, _≤_, _<_}
 use native.Mathlib.Nat.{mul-le-mul-right, suc-mul, mul-zero, zero-mul, mul-add-div-right, mul-add-mod-self-right, div-eq-of-lt, mod-eq-of-lt, div-add-mod', mod-lt, div-lt-iff-lt-mul}
 use native.Mathlib.Omega.{arith}
-use mathlib.Core.Path.{_≡_, refl, sym, ap, _∙_}
+use mathlib.Core.Path.{_≡_, sym, ap, _∙_}
 use Rattle.geometry.specs.Translation.{productOf}
 use Rattle.geometry.specs.declared.Translation.{Translation}
 use Rattle.address.specs.Registers.{cylinderOf, headOf}
@@ -64,6 +64,15 @@ pub record Numbered (t : Translation) (n : ℕ) : Type 0 where
   pub good : Chs t c h s
   pub is : chsNumber t c h s ≡ n
 
+nothing-below : {m n : ℕ} → m ≡ 0 → n < m → ⊥
+nothing-below e l = omega arith
+
+-- a product above something has no factor 0
+factors-some : (a b n : ℕ) → n < a * b → (0 < a) × (0 < b)
+factors-some zero b n l = absurd (nothing-below (zero-mul b) l)
+factors-some (suc a) zero n l = absurd (nothing-below (mul-zero (suc a)) l)
+factors-some (suc a) (suc b) n l = (omega arith, omega arith)
+
 pub chs-onto : (t : Translation) (n : ℕ) → n < productOf t → Numbered t n
 unfolding chsNumber productOf
 chs-onto t n l =
@@ -81,21 +90,7 @@ chs-onto t n l =
     }
   where
     sectors : 0 < t .sectors
-    sectors = factor (t .sectors) refl
-      where
-        factor : (k : ℕ) → t .sectors ≡ k → 0 < t .sectors
-        factor zero e = absurd (empty (rw e at l))
-          where
-            empty : n < t .cylinders * t .heads * zero → ⊥
-            empty m = omega (arith, mul-zero (t .cylinders * t .heads))
-        factor (suc k) e = omega arith
+    sectors = factors-some (t .cylinders * t .heads) (t .sectors) n l .1
 
     heads : 0 < t .heads
-    heads = factor (t .heads) refl
-      where
-        factor : (k : ℕ) → t .heads ≡ k → 0 < t .heads
-        factor zero e = absurd (empty (rw e at l))
-          where
-            empty : n < t .cylinders * zero * t .sectors → ⊥
-            empty m = omega (arith, mul-zero (t .cylinders), rw (mul-zero (t .cylinders)) at m, zero-mul (t .sectors))
-        factor (suc k) e = omega arith
+    heads = factors-some (t .cylinders) (t .heads) 0 (factors-some (t .cylinders * t .heads) (t .sectors) n l .0) .1

@@ -166,6 +166,17 @@ chs-next t r k g = sector (ltb (r .sector) (t .sectors)) refl
     sector true e = inl (next-sector t r g (ltb-true _ _ e))
     sector false e = head (ltb (headOf r + 1) (t .heads)) refl (ltb-false _ _ e)
 
+-- what an address that names a sector tells, by its kind
+lba-named : (g : Geometry) (t : Translation) (r : AddressRegisters) (a : Sector) → lbaSelected r ≡ true → addressOf g t r ≡ Names a
+    → (lbaOf r < capacityOf g) × (a .number ≡ lbaOf r)
+unfolding addressOf
+lba-named g t r a e n = lba-names (capacityOf g) r a (rw e at n)
+
+chs-named : (g : Geometry) (t : Translation) (r : AddressRegisters) (a : Sector) → lbaSelected r ≡ false → addressOf g t r ≡ Names a
+    → ChsAt t r × (a .number ≡ chsNumberAt t r)
+unfolding addressOf
+chs-named g t r a e n = chs-names t r a (rw e at n)
+
 -- how the registers after sector a of a disk stand
 record After (g : Geometry) (t : Translation) (r : AddressRegisters) (a : Sector) : Type 0 where
   next : a .number + 1 < reachOf g t r → addressOf g t (successorOf t r) ≡ names (a .number + 1)
@@ -175,7 +186,7 @@ after-lba : (g : Geometry) (t : Translation) (r : AddressRegisters) (a : Sector)
     → addressOf g t r ≡ Names a → After g t r a
 unfolding addressOf successorOf reachOf
 after-lba g t r a f e n =
-    let old = lba-names (capacityOf g) r a (rw e at n) in
+    let old = lba-named g t r a e n in
     let new : lbaOf (lbaSuccessor r) ≡ a .number + 1 = lba-next g r f (old .0) ∙ ap (λ (k : ℕ). k + 1) (sym (old .1)) in
     let mode : lbaSelected (lbaSuccessor r) ≡ true = rw e at (successor-selected t r) in
     record {
@@ -189,7 +200,7 @@ unfolding addressOf successorOf reachOf
 after-chs g t r a f e n = go (chs-next t r (counts g t f) (old .0))
   where
     old : ChsAt t r × (a .number ≡ chsNumberAt t r)
-    old = chs-names t r a (rw e at n)
+    old = chs-named g t r a e n
 
     mode : lbaSelected (chsSuccessor t r) ≡ false
     mode = rw e at (successor-selected t r)
@@ -238,19 +249,19 @@ successor-end g t r a f u n = after g t r a f u n .end
 -- "the bad address": in LBA the capacity
 pub lba-past : (g : Geometry) (t : Translation) (r : AddressRegisters) (a : Sector) → geometryFits g ≡ true → lbaSelected r ≡ true
     → addressOf g t r ≡ Names a → a .number + 1 ≡ capacityOf g → lbaOf (successorOf t r) ≡ capacityOf g
-unfolding addressOf successorOf
+unfolding successorOf
 lba-past g t r a f e n l =
-    let old = lba-names (capacityOf g) r a (rw e at n) in
+    let old = lba-named g t r a e n in
     rw e (omega (arith, lba-next g r f (old .0), old .1))
 
 -- in CHS the registers c = cylinders, h = 0, s = 1
 pub chs-past : (g : Geometry) (t : Translation) (r : AddressRegisters) (a : Sector) → translationAllowed g t ≡ true → lbaSelected r ≡ false
     → addressOf g t r ≡ Names a → a .number + 1 ≡ productOf t → Holds (successorOf t r) (t .cylinders) 0 1
-unfolding addressOf successorOf
+unfolding successorOf
 chs-past g t r a f e n l = rw e (go (chs-next t r (counts g t f) (old .0)))
   where
     old : ChsAt t r × (a .number ≡ chsNumberAt t r)
-    old = chs-names t r a (rw e at n)
+    old = chs-named g t r a e n
 
     go : Next t r (chsSuccessor t r) ⊎ Past t r (chsSuccessor t r) → Holds (chsSuccessor t r) (t .cylinders) 0 1
     go (inl x) = absurd (early (x .more) (chs-below (x .good)) (old .1))

@@ -1,4 +1,4 @@
--- What the tests of a definition give where the code has tested the same: one set for numbers, one for bools that a call gave too.
+-- What a test that the code made tells of a choice in a definition, and what a choice or a test of limits that came out true tells back.
 use mathlib.Core.Bool.{Bool, true, false}
 use mathlib.Core.Path.{_≡_, refl, sym, _∙_}
 use Prim.Native.Nat.{ℕ, _≤_}
@@ -6,8 +6,6 @@ use native.Mathlib.Omega.{arith}
 use lib.Dec.{leb}
 use borrow.Author.Tests.{lt-ltb, le-ltb, le-leb, lt-leb, eq-eqb, ne-eqb, leb-true}
 use Rattle.base.specs.Choice.{pick, within}
-
-pub ruleset tests = (lt-ltb, le-ltb, le-leb, lt-leb, eq-eqb, ne-eqb)
 
 pub picked-true {ℓ} : {A : Type ℓ} (b : Bool) (x a y : A) → b ≡ true → x ≡ a → x ≡ pick b a y
 picked-true b x a y h e = rw h e
@@ -22,6 +20,7 @@ told-true b r e h = sym e ∙ h
 pub told-false : (b r : Bool) → r ≡ b → r ≡ false → b ≡ false
 told-false b r e h = sym e ∙ h
 
+-- for `search`: choices by the code's own tests and by bools that calls gave
 pub ruleset picks = (picked-true, picked-false, told-true, told-false, lt-ltb, le-ltb, le-leb, lt-leb, eq-eqb, ne-eqb)
 
 -- what follows where two different constructors would be equal: `cc` shows 0 ≡ 1 from that

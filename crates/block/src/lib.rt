@@ -31,6 +31,7 @@ pub fn put_word(block: &mut [u8; 512], n: u8, w: u16)
     block[high] = (w / 256) as u8;
 }
 
+// A zeroed buffer.
 pub fn zeros() -> [u8; 512]
     ensures { λ r. ⌜ r ≡ zeroBlock ⌝ }
 {

@@ -7,7 +7,7 @@ use mathlib.Core.Path.{_≡_, refl, sym, ap₂, _∙_}
 use mathlib.Core.Logic.{_⊎_, inl, inr}
 use lib.Dec.{eqb}
 use borrow.Author.Tests.{eq-eqb, ne-eqb, eqb-true, eqb-false}
-use Rattle.base.specs.Choice.{pick, within}
+use Rattle.base.specs.Choice.{within}
 use Rattle.base.proofs.Tests.{zero≢one, both-true, within-low, within-high, within-true, false≢true}
 use Rattle.geometry.specs.Geometry.{maxCylinders, maxHeads, geometryFits, capacityOf}
 use Rattle.geometry.specs.Translation.{factoryOf, headsAsked, cylindersFor, translationOf, initializedOf, sameCylinders, translationAllowed, productOf}
@@ -25,20 +25,44 @@ pub record Asked (g : Geometry) (h s : ℕ) (t : Translation) : Type 0 where
   pub some-sectors : 1 ≤ s
   pub some-cylinders : 1 ≤ cylindersFor g h s
 
--- what 91h makes is what was asked for
-pub initialized-to : (g : Geometry) (s head : ℕ) (t : Translation) → initializedOf g s head ≡ To t → Asked g (headsAsked head) s t
+-- 91h aborts for one of two reasons, or makes what was asked for
+record Aborts (g : Geometry) (s head : ℕ) : Type 0 where
+  is : initializedOf g s head ≡ Aborted
+  reason : (s ≡ 0) ⊎ (cylindersFor g (headsAsked head) s ≡ 0)
+
+record Makes (g : Geometry) (s head : ℕ) : Type 0 where
+  is : initializedOf g s head ≡ To (translationOf g (headsAsked head) s)
+  some-sectors : 1 ≤ s
+  some-cylinders : 1 ≤ cylindersFor g (headsAsked head) s
+
+initialized : (g : Geometry) (s head : ℕ) → Aborts g s head ⊎ Makes g s head
 unfolding initializedOf
-initialized-to g s head t e = go (eqb s 0) (eqb (cylindersFor g (headsAsked head) s) 0) refl refl e
+initialized g s head = go (eqb s 0) (eqb (cylindersFor g (headsAsked head) s) 0) refl refl
   where
-    go : (a b : Bool) → eqb s 0 ≡ a → eqb (cylindersFor g (headsAsked head) s) 0 ≡ b
-        → pick a Aborted (pick b Aborted (To (translationOf g (headsAsked head) s))) ≡ To t → Asked g (headsAsked head) s t
-    go true b p q r = absurd (zero≢one (cc))
-    go false true p q r = absurd (zero≢one (cc))
-    go false false p q r =
-        let m : translationOf g (headsAsked head) s ≡ t = cc in
+    go : (a b : Bool) → eqb s 0 ≡ a → eqb (cylindersFor g (headsAsked head) s) 0 ≡ b → Aborts g s head ⊎ Makes g s head
+    go true b p q = inl (record { is = rw p; reason = inl (eqb-true s 0 p) })
+    go false true p q = inl (record { is = rw (p, q); reason = inr (eqb-true _ 0 q) })
+    go false false p q =
         let u : s ≡ 0 → ⊥ = eqb-false s 0 p in
         let v : cylindersFor g (headsAsked head) s ≡ 0 → ⊥ = eqb-false _ 0 q in
-        record { heads = cc; sectors = cc; cylinders = cc; some-sectors = omega arith; some-cylinders = omega arith }
+        inr (record { is = rw (p, q); some-sectors = omega arith; some-cylinders = omega arith })
+
+pub initialized-to : (g : Geometry) (s head : ℕ) (t : Translation) → initializedOf g s head ≡ To t → Asked g (headsAsked head) s t
+initialized-to g s head t e = go (initialized g s head)
+  where
+    go : Aborts g s head ⊎ Makes g s head → Asked g (headsAsked head) s t
+    go (inl x) = let a = x .is in absurd (zero≢one (cc))
+    go (inr x) =
+        let a = x .is in
+        let m : translationOf g (headsAsked head) s ≡ t = cc in
+        record { heads = cc; sectors = cc; cylinders = cc; some-sectors = x .some-sectors; some-cylinders = x .some-cylinders }
+
+pub initialized-aborted : (g : Geometry) (s head : ℕ) → initializedOf g s head ≡ Aborted → (s ≡ 0) ⊎ (cylindersFor g (headsAsked head) s ≡ 0)
+initialized-aborted g s head e = go (initialized g s head)
+  where
+    go : Aborts g s head ⊎ Makes g s head → (s ≡ 0) ⊎ (cylindersFor g (headsAsked head) s ≡ 0)
+    go (inl x) = x .reason
+    go (inr x) = let a = x .is in absurd (zero≢one (cc))
 
 -- and what is asked for with some sectors and some cylinders is made
 pub to-initialized : (g : Geometry) (s head : ℕ) (t : Translation) → Asked g (headsAsked head) s t → initializedOf g s head ≡ To t
@@ -51,17 +75,6 @@ to-initialized g s head t a =
   where
     absent : {n : ℕ} → 1 ≤ n → n ≡ 0 → ⊥
     absent p q = omega arith
-
--- 91h aborts for one of two reasons
-pub initialized-aborted : (g : Geometry) (s head : ℕ) → initializedOf g s head ≡ Aborted → (s ≡ 0) ⊎ (cylindersFor g (headsAsked head) s ≡ 0)
-unfolding initializedOf
-initialized-aborted g s head e = go (eqb s 0) (eqb (cylindersFor g (headsAsked head) s) 0) refl refl e
-  where
-    go : (a b : Bool) → eqb s 0 ≡ a → eqb (cylindersFor g (headsAsked head) s) 0 ≡ b
-        → pick a Aborted (pick b Aborted (To (translationOf g (headsAsked head) s))) ≡ Aborted → (s ≡ 0) ⊎ (cylindersFor g (headsAsked head) s ≡ 0)
-    go true b p q r = inl (eqb-true s 0 p)
-    go false true p q r = inr (eqb-true _ 0 q)
-    go false false p q r = absurd (zero≢one (cc))
 
 -- heads that a nibble can ask for
 own-nibble : (h : ℕ) → 1 ≤ h → h ≤ 16 → headsAsked (h - 1) ≡ h

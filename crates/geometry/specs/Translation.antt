@@ -36,7 +36,7 @@ abbrev pub sameCylinders : Translation → Initialized → Bool
 sameCylinders t (To made) = eqb (made .cylinders) (t .cylinders)
 sameCylinders t Aborted = false
 
--- answer 2, "translation not one that 91h allows": asked for t's own heads and sectors, 91h gives t
+-- answer 2, "translation not one that 91h allows": a nibble can ask for t's heads, and asked for t's own heads and sectors, 91h gives t
 unfoldable pub translationAllowed : Geometry → Translation → Bool
 translationAllowed g t =
     pick (within 1 16 (t .heads)) (sameCylinders t (initializedOf g (t .sectors) (t .heads - 1))) false

@@ -50,6 +50,7 @@ impl Geometry {
         false
     }
 
+    // The geometry of three counts, where they are within the limits.
     pub fn new(cylinders: u16, heads: u8, sectors: u8) -> Checked
         ensures { λ r. ⌜ r ≡ checkedOf cylinders heads sectors ⌝ }
     {

@@ -1,6 +1,6 @@
 -- The tests are the definition's, in its order; every number on the way fits 32 bits.
 use Rattle.address.specs.Address.{chsAddress, chsNumber}
-use Rattle.base.proofs.Products.{fits-mul16, fits-number, fits-sectors, fits-track}
+use Rattle.base.proofs.Products.{fits-number, fits-product, fits-sectors, fits-track}
 use Rattle.base.proofs.Tests.{within-low}
 use borrow.Author.Needs.{needs}
 use borrow.Author.Tests.{le-ltb, lt-ltb}
@@ -31,7 +31,7 @@ cast-track-2 : tie.Need-cast-track-2
 cast-track-2 c = search needs
 
 mul-track : tie.Need-mul-track
-mul-track c = fits-mul16 _ _ (omega arith) (omega arith)
+mul-track c = fits-product 65535 255 _ _ (omega arith) (omega arith) (omega arith)
 
 cast-track-3 : tie.Need-cast-track-3
 cast-track-3 c = search needs
@@ -52,7 +52,7 @@ add-number : tie.Need-add-number
 add-number c = fits-number _ _ _ _ _ (omega arith) (omega arith) (omega arith) (omega arith) (omega arith)
 
 sub-number : tie.Need-sub-number
-sub-number c = omega (arith, within-low _ _ _ (sym ((c .before .before .before .before .before .before .before .before .within) .ensures) ∙ (c .before .before .before .before .before .before .before .if1) .taken))
+sub-number c = omega (arith, within-low _ _ _ (sym (c .before .before .before .before .before .before .before .before .within .ensures) ∙ c .before .before .before .before .before .before .before .if1 .taken))
 
 returns : tie.Need-returns
 unfolding chsAddress chsNumber

@@ -1,5 +1,5 @@
 -- The divisor is a product of two counts that are not 0; the cap is the smaller of the two numbers.
-use Rattle.base.proofs.Products.{fits-mul8}
+use Rattle.base.proofs.Products.{fits-product}
 use Rattle.geometry.specs.Translation.{cylindersFor}
 use borrow.Author.Needs.{needs}
 use mathlib.Core.Path.{sym}
@@ -12,7 +12,7 @@ capacity-requires : tie.Need-capacity-requires
 capacity-requires c κs = search needs
 
 mul-whole : tie.Need-mul-whole
-mul-whole c = fits-mul8 _ _ (omega arith) (omega arith)
+mul-whole c = fits-product 255 255 _ _ (omega arith) (omega arith) (omega arith)
 
 div-whole : tie.Need-div-whole
 div-whole c = mul-pos (omega arith) (omega arith)
