@@ -13,23 +13,17 @@ import sys
 
 sys.path.insert(0, 'tools')
 import tidy  # noqa: E402
+import tree  # noqa: E402
+from tree import read  # noqa: E402
 
 LONGEST_FUNCTION = 40  # lines
 LONGEST_CHECK = 60  # seconds for one crate
 
 
-read = tidy.read
-
-
-def listed_crates():
-    lines = (line.split('#')[0].strip() for line in read('crates.txt').splitlines())
-    return [line.split(':')[0].strip() for line in lines if line]
-
-
 def crates_are_listed(_):
     """crates.txt and crates/ name the same crates."""
     there = {os.path.basename(path.rstrip('/')) for path in glob.glob('crates/*/')}
-    return [f'{name} stands in one of crates.txt and crates/ only' for name in there ^ set(listed_crates())]
+    return [f'{name} stands in one of crates.txt and crates/ only' for name in there ^ set(tree.crates())]
 
 
 def layout_is_kept(_):
@@ -40,19 +34,17 @@ def layout_is_kept(_):
 
 def functions(path):
     """(name, lines, public, has a requires) of each function of a source file, methods as Type::name."""
-    found, owner, start = [], '', None
-    for number, line in enumerate(read(path).splitlines(), 1):
+    lines, owner = read(path).splitlines(), ''
+    for first, line in enumerate(lines):
         if re.match(r'impl (\w+)', line):
             owner = re.match(r'impl (\w+)', line).group(1) + '::'
         m = re.match(r'( *)(pub )?(?:extern "C" )?fn (\w+)', line)
         if m:
-            start = (number, m.group(1), (owner if m.group(1) else '') + m.group(3), bool(m.group(2)), False)
-        elif start and re.match(r' *requires', line):
-            start = start[:4] + (True,)
-        elif start and line == start[1] + '}':
-            found.append((start[2], number - start[0] + 1, start[3], start[4]))
-            start = None
-    return found
+            # its body ends at the first brace that closes at its own indent, or on its first line
+            ends = (i for i in range(first, len(lines)) if lines[i] == m.group(1) + '}' or i == first and line.endswith('}'))
+            last = next(ends)
+            required = any(re.match(r' *requires', lines[i]) for i in range(first, last))
+            yield (owner if m.group(1) else '') + m.group(3), last - first + 1, bool(m.group(2)), required
 
 
 def all_functions():
@@ -68,32 +60,35 @@ def functions_are_short(_):
 def crates_check_quickly(log):
     """No crate takes longer than a minute."""
     times = re.findall(r'^rt: (\w+) proved \((\d+) s\)', log, re.M)
-    missing = [f'no time for {name}' for name in listed_crates() if name not in dict(times)]
+    missing = [f'no time for {name}' for name in tree.crates() if name not in dict(times)]
     return missing + [f'{name} took {seconds} s' for name, seconds in times if LONGEST_CHECK < int(seconds)]
 
 
 def proofs_have_recipes(_):
-    """Each proof file of a function comes from a recipe, whose argument is its first line."""
+    """Each proof file of a function has a recipe, whose argument is its first line."""
     complaints = []
-    for crate in listed_crates():
+    for crate in tree.crates():
         base = f'crates/{crate}/proofs'
-        text = read(f'{base}/recipes.txt') if os.path.exists(f'{base}/recipes.txt') else ''
-        recipes = dict(re.findall(r'^(\S+)\n  why +(.*)$', text, re.M))
+        recipes = tree.recipes(crate) if os.path.exists(f'{base}/recipes.txt') else {}
         files = {os.path.relpath(os.path.dirname(path), base) for path in glob.glob(f'{base}/**/Proof.antt', recursive=True)}
         complaints += [f'{crate}: {name} has a recipe or a proof, not both' for name in files ^ set(recipes)]
         for name in files & set(recipes):
-            if read(f'{base}/{name}/Proof.antt').splitlines()[0] != f'-- {recipes[name]}':
+            if read(f'{base}/{name}/Proof.antt').splitlines()[0] != f'-- {recipes[name].get("why")}':
                 complaints.append(f'{crate}: {name} does not open with its argument')
     return complaints
 
 
 def imports_are_used(_):
     """No file brings a name in that it does not use (tools/tidy.py takes such names out)."""
-    return [f'{path}: {name}' for path in tidy.sources() for name in tidy.unused_names(path)]
+    return [f'{path}: {name}' for path in tree.sources() for name in tidy.unused_names(path)]
 
 
-def edits_fail_by_a_fact(_):
-    """Each must-fail edit was refused because a fact fails, not because a proof file no longer fits the code."""
+# What the check says where a proof file does not fit the code's shape, which shows nothing of the facts.
+UNFIT = ['has no `Need-', 'expected type `tie.Need-', 'expected type `Need-', 'is not in scope', 'has no field']
+
+
+def edits_reach_a_proof(_):
+    """Each must-fail edit names its slip, and was refused inside a proof or a law that fits the edited code's shape."""
     complaints = []
     for edit in sorted(glob.glob('crates/*/must-fail/*.edit')):
         crate, label = edit.split('/')[1], os.path.basename(edit)[:-5]
@@ -102,13 +97,18 @@ def edits_fail_by_a_fact(_):
             complaints.append(f'{crate}/{label} was not tried')
             continue
         errors = re.findall(r'^\S+: error: .*$|^fn .*`search` does not close .*$', read(log), re.M)
-        unfit = [e for e in errors if 'has no `Need-' in e or re.search(r'expected type `(tie\.)?Need-', e)]
-        facts = [e for e in errors if 'was not admitted' not in e]
-        if unfit or not facts:
+        unfit = [e for e in errors if any(words in e for words in UNFIT)]
+        if unfit or all('was not admitted' in e for e in errors):
             complaints.append(f'{crate}/{label}: ' + (unfit or errors or ['no error'])[0][:200])
         if not re.match(r'# \S', read(edit)):
             complaints.append(f'{crate}/{label} does not say what slip it is')
     return complaints
+
+
+def last_column(path):
+    """The names in backquotes in the last column of a file's tables."""
+    cells = [row.split('|')[-2] for row in read(path).splitlines() if re.match(r'\|.*\|$', row)]
+    return [name for cell in cells for name in re.findall(r'`([^`]+)`', cell)]
 
 
 def promises_name_every_call(_):
@@ -124,16 +124,20 @@ def promises_name_every_call(_):
 
 def rules_name_every_definition(_):
     """docs/RULES.md names each definition of specs/, and nothing else in its last column."""
-    there = set()
-    for path in glob.glob('crates/*/specs/*.antt'):
-        there |= set(re.findall(r'^(?:abbrev |unfoldable )?pub (?:record )?(?!mod )([^\s:={(]+)', read(path), re.M))
-    cells = [row.split('|')[-2] for row in read('docs/RULES.md').splitlines() if re.match(r'\|.*\|$', row)]
-    named = {name for cell in cells for name in re.findall(r'`([^`]+)`', cell)}
+    there = {name for path in glob.glob('crates/*/specs/*.antt') for name in tree.public_names(path)}
+    named = set(last_column('docs/RULES.md'))
     return [f'{name} is in no rule' for name in there - named] + [f'{name} is no definition' for name in named - there]
 
 
+def laws_that_are_named_exist(_):
+    """docs/ARCHITECTURE.md names only laws that are there, in the table of laws."""
+    there = {name for path in glob.glob('crates/*/proofs/*.antt') for name in tree.public_names(path)}
+    table = re.search(r'## Laws that do not mirror the code\n(.*?)\n## ', read('docs/ARCHITECTURE.md'), re.S).group(1)
+    return [f'{name} is no law' for name in re.findall(r'`([^`]+)`', table) if name not in there]
+
+
 CHECKS = [crates_are_listed, layout_is_kept, functions_are_short, crates_check_quickly, proofs_have_recipes,
-          imports_are_used, edits_fail_by_a_fact, promises_name_every_call, rules_name_every_definition]
+          imports_are_used, edits_reach_a_proof, promises_name_every_call, rules_name_every_definition, laws_that_are_named_exist]
 
 
 def main():

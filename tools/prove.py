@@ -28,6 +28,9 @@ import shutil
 import subprocess
 import sys
 
+import tree
+from tree import read, write
+
 # Where the kit's names come from.
 KIT = {
     'borrow.Author.Needs': 'needs',
@@ -46,28 +49,6 @@ KIT = {
 
 def fail(text):
     sys.exit(f'prove.py: {text}')
-
-
-def read(path):
-    with open(path, encoding='utf8') as f:
-        return f.read()
-
-
-def recipes_of(crate):
-    """{function: {need or pattern: answer}}, in the file's order."""
-    recipes, function, key = {}, None, None
-    for line in read(f'crates/{crate}/proofs/recipes.txt').splitlines():
-        if not line.strip() or line.startswith('#'):
-            continue
-        if not line.startswith(' '):
-            function = line.strip()
-            recipes[function] = {}
-        elif line.startswith('      '):
-            recipes[function][key] += '\n' + line[2:].rstrip()
-        else:
-            key, answer = line.strip().split(None, 1)
-            recipes[function][key] = answer.strip()
-    return recipes
 
 
 def skeletons(log, crate):
@@ -187,8 +168,7 @@ def modules_of_names(crate):
     for path in sorted(glob.glob('crates/*/specs/*.antt') + glob.glob('crates/*/proofs/*.antt')):
         owner, part, name = re.match(r'crates/(\w+)/(specs|proofs)/(\w+)\.antt', path).groups()
         module = f'Rattle.{crate}.{part}.{name}' if owner == crate else f'Rattle.{owner}.{part}.{name}'
-        for m in re.finditer(r'^(?:abbrev |unfoldable )?pub (?:ruleset |record )?(?!mod )([^\s:={(]+)', read(path), re.M):
-            where[m.group(1)] = module
+        where.update((public, module) for public in tree.public_names(path))
     return where
 
 
@@ -240,7 +220,7 @@ class Proof:
         answer = re.sub(r'\{([\w-]+)\}', lambda m: self.known.path(need, m.group(1)), answer)
         return f'{opened}{head} = {answer}'
 
-    def write(self):
+    def put(self):
         body = []
         for line in self.lines:
             m = re.match(r'(\S+)((?: \S+)*) = (?:\?|search needs)$', line)
@@ -249,8 +229,7 @@ class Proof:
         own = f'Rattle.{self.crate}.proofs.{self.function.replace("/", ".")}'
         uses = imports(text, self.where) + [f'use {own}.Statement.{{statement}}', f'use {own}.Tie as tie']
         os.makedirs(os.path.dirname(self.path()), exist_ok=True)
-        with open(self.path(), 'w', encoding='utf8') as f:
-            f.write(f'-- {self.recipe["why"]}\n' + '\n'.join(uses) + '\n\n' + text)
+        write(self.path(), f'-- {self.recipe["why"]}\n' + '\n'.join(uses) + '\n\n' + text)
 
     def drop_unused(self, log):
         """Takes in the check's notes on facts that `simp` never applied; whether there were any."""
@@ -275,7 +254,7 @@ def asked_for(words):
     """The crate, its recipes, and the functions whose proofs are to be made anew."""
     if not words or not os.path.isdir(f'crates/{words[0]}'):
         fail('usage: tools/prove.py CRATE [FUNCTION ..], at the repository\'s root')
-    recipes = recipes_of(words[0])
+    recipes = tree.recipes(words[0])
     for function in words[1:]:
         if function not in recipes:
             fail(f'no recipe for {function}')
@@ -308,14 +287,13 @@ def make(crate, recipes, pending):
         if not found:
             for path, text in were.items():
                 if not os.path.exists(path):
-                    with open(path, 'w', encoding='utf8') as f:
-                        f.write(text)
+                    write(path, text)
             fail('the check printed no lines for ' + ', '.join(pending) + '\n' + '\n'.join(errors_in(log)))
         if any('{' in answer for f in found for answer in recipes[f].values()):
             run('rt', 'goals', crate)
         for function, lines in found.items():
             made.append(Proof(crate, function, lines, recipes[function], context))
-            made[-1].write()
+            made[-1].put()
             pending.remove(function)
         log = check(crate)
     return made, log
@@ -325,7 +303,7 @@ def main():
     crate, recipes, pending = asked_for(sys.argv[1:])
     made, log = make(crate, recipes, pending)
     for proof in [proof for proof in made if proof.drop_unused(log)]:
-        proof.write()
+        proof.put()
     run('rt', 'fmt')
     errors = errors_in(check(crate))
     print('\n'.join(errors) or f'{crate}: {len(made)} proofs written, every function proved')

@@ -3,20 +3,11 @@
 
     tools/tidy.py       (at the repository's root: every source, definition and proof)
 """
-import glob
 import re
 
+from tree import read, sources, write
+
 USE = r'^((?:ghost )?use .*\.\{)(.*)(\};?)$'
-
-
-def sources():
-    patterns = 'crates/*/src/*.rt', 'crates/*/specs/*.antt', 'crates/*/proofs/**/*.antt'
-    return sorted(path for pattern in patterns for path in glob.glob(pattern, recursive=True))
-
-
-def read(path):
-    with open(path, encoding='utf8') as f:
-        return f.read()
 
 
 def unused_names(path):
@@ -38,9 +29,7 @@ def main():
     for path in sources():
         names = unused_names(path)
         if names:
-            text = without(names, read(path))
-            with open(path, 'w', encoding='utf8') as f:
-                f.write(text)
+            write(path, without(names, read(path)))
             print(f'{path}: {", ".join(names)}')
 
 
