@@ -19,7 +19,7 @@ head-number-requires c κs = search needs
 
 add-h : tie.Need-add-h
 unfolding headOf
-add-h c = omega (arith, (c .head-number) .ensures)
+add-h c = omega (arith, c .head-number .ensures)
 
 cylinder-requires : tie.Need-cylinder-requires
 cylinder-requires c κs = search needs
