@@ -70,6 +70,7 @@ class Known:
     """What is known at each need of a function: the chain of records in its Lts.antt."""
 
     def __init__(self, crate, function):
+        self.conditions = conditions(crate, function)
         place = f'target/goals/{crate}/Rattle.{crate}.proofs/proofs/{function}/Lts.antt'
         text = read(place)
         record = r'pub record (\S+) : Type 0 where\n\s+pub before : (\S+)\n\s+pub (\S+) : \S+·own before'
@@ -98,12 +99,13 @@ class Known:
         out, chain = [], self.chain(need)[:-1]
         for i, (thing, path, record) in enumerate(chain):
             if record not in self.owns:
-                out += self.call(calls, thing, path, last=(i == 0))
+                tested = 0 < i and self.tests_call(chain[i - 1][0])
+                out += self.call(calls, thing, path, last=(i == 0), tested=tested)
                 continue
             field, kind = re.match(r'\s*pub (\S+) :(.*)', self.owns[record], re.S).groups()
             fact = f'{path} .{field}'
             if field in ('taken', 'left'):
-                out += self.test(calls, kind, fact, chain[i + 1:])
+                out += self.test(calls, kind, fact, thing, chain[i + 1:])
             elif field.startswith('keys') and 'tagOf' not in kind:
                 out.append(fact)
             elif field == 'rest' and 'tagOf' not in kind:
@@ -115,21 +117,26 @@ class Known:
                     out.append(f'{fact} .1')
         return out
 
+    def tests_call(self, thing):
+        """Whether the test of that name asks what a call just gave."""
+        m = re.fullmatch(r'if(\d+)', thing)
+        return bool(m) and int(m[1]) <= len(self.conditions) and self.conditions[int(m[1]) - 1].endswith(')')
+
     @staticmethod
     def result(calls, thing):
         name = thing.replace('-', '_')
         return calls.get(name) or calls.get(name.rstrip('0123456789')) or ('?', False)
 
-    def call(self, calls, thing, path, last):
+    def call(self, calls, thing, path, last, tested):
         kind, pair = self.result(calls, thing)
         if pair:
             return [f'{path} .ensures .0', f'{path} .ensures .1']
-        if kind == 'bool':
+        if kind == 'bool' and (last or tested):
             return [f'{path} .ensures'] if last else []
-        number = kind in ('u8', 'u16', 'u32', 'u64', 'usize') or kind in calls['enums']
+        number = kind == 'bool' or kind in ('u8', 'u16', 'u32', 'u64', 'usize') or kind in calls['enums']
         return [('← ' if number else '') + f'{path} .ensures']
 
-    def test(self, calls, kind, fact, earlier):
+    def test(self, calls, kind, fact, thing, earlier):
         if '⊥' in kind:
             return [f'ne-eqb _ _ ({fact})']
         if 'Nat._<_' in kind:
@@ -139,9 +146,19 @@ class Known:
         if 'Nat.ℕ' in kind.split('\n')[0] or '{A = Nat' in kind:
             return [f'eq-eqb _ _ ({fact})']
         asked = next(((t, p) for t, p, r in earlier if r not in self.owns), None)
-        if asked and self.result(calls, asked[0])[0] == 'bool':
+        if asked and self.tests_call(thing) and self.result(calls, asked[0])[0] == 'bool':
             return [f'sym ({asked[1]} .ensures) ∙ {fact}']
         return [fact]
+
+
+def conditions(crate, function):
+    """What the tests of a function ask, in order."""
+    owner, _, name = function.rpartition('/')
+    text = read(f'crates/{crate}/src/lib.rt')
+    start = 'impl ' + owner if owner else ''
+    body = re.search(rf'{start}\b.*?\bfn {name}\(.*?\n(    )?\}}\n', text, re.S)
+    body = body.group(0) if body else ''
+    return re.findall(r'\bif (?!let )(.*?) \{\n', body[body.rfind(f'fn {name}('):])
 
 
 def calls_of_all_crates():

@@ -1,0 +1,3 @@
+pub mod Lock
+pub mod Passwords
+pub mod Judging

@@ -1,0 +1,110 @@
+// What commands seldom touch: geometry, translation, identity and security settings; their limits, and what resets leave of them.
+ghost use mathlib.Core.Path.{_≡_};
+ghost use Rattle.settled.specs.Identity.{printable, identityFits};
+ghost use Rattle.settled.specs.Settled.{withTranslation, withSecurity, settledFits, settledPoweredOn, settledReset};
+use geometry::Geometry;
+use geometry::Translation;
+use lock::Security;
+
+// What IDENTIFY tells of the disk by name.
+pub struct Identity {
+    pub serial: [u8; 20],
+    pub firmware: [u8; 8],
+    pub model: [u8; 40],
+}
+
+pub struct Settled {
+    pub geometry: Geometry,
+    pub translation: Translation,
+    pub identity: Identity,
+    pub security: Security,
+}
+
+// Whether each byte is from 20h to 7Eh.
+fn printable(text: &[u8]) -> bool
+    ensures { λ r. ⌜ r ≡ printable (now (text .entry)) ⌝ }
+{
+    let mut seen = 0;
+    while seen < text.len() {
+        if base::within(0x20, 0x7E, text[seen] as u16) {
+            seen += 1;
+        } else {
+            return false;
+        }
+    }
+    true
+}
+
+impl Identity {
+    // Whether serial, firmware and model are printable.
+    pub fn fits(self) -> bool
+        ensures { λ r. ⌜ r ≡ identityFits self ⌝ }
+    {
+        let serial = self.serial;
+        let firmware = self.firmware;
+        let model = self.model;
+        if printable(&serial) {
+            if printable(&firmware) {
+                return printable(&model);
+            }
+            return false;
+        }
+        false
+    }
+}
+
+impl Settled {
+    pub fn with_translation(mut self, translation: Translation) -> Self
+        ensures { λ r. ⌜ r ≡ withTranslation self translation ⌝ }
+    {
+        self.translation = translation;
+        self
+    }
+
+    pub fn with_security(mut self, security: Security) -> Self
+        ensures { λ r. ⌜ r ≡ withSecurity self security ⌝ }
+    {
+        self.security = security;
+        self
+    }
+
+    // The clauses of answer 2 on geometry, identity, translation, attempts and lock.
+    pub fn fits(self) -> bool
+        ensures { λ r. ⌜ r ≡ settledFits self ⌝ }
+    {
+        let geometry = self.geometry;
+        let translation = self.translation;
+        let identity = self.identity;
+        let security = self.security;
+        if geometry.fits() {
+            if identity.fits() {
+                if translation.allowed(geometry) {
+                    return security.fits();
+                }
+                return false;
+            }
+            return false;
+        }
+        false
+    }
+
+    // Power-on and hardware reset.
+    pub fn power_on(self) -> Self
+        ensures { λ r. ⌜ r ≡ settledPoweredOn self ⌝ }
+    {
+        let geometry = self.geometry;
+        let security = self.security;
+        self.with_translation(geometry.factory())
+            .with_security(security.power_on())
+    }
+
+    // Software reset.
+    pub fn reset(self) -> Self
+        ensures { λ r. ⌜ r ≡ settledReset self ⌝ }
+    {
+        let geometry = self.geometry;
+        let security = self.security;
+        self.with_translation(geometry.factory())
+            .with_security(security.unprepare())
+    }
+}
