@@ -7,8 +7,7 @@ use native.Mathlib.Numerals.{add-one}
 use native.Mathlib.Omega.{arith}
 use lib.ListN.{length, getD, drop}
 use lib.Seq.{drop-cons, drop-length}
-use Rattle.base.specs.Choice.{within}
-use Rattle.settled.specs.Identity.{printable}
+use Rattle.settled.specs.Identity.{plain, printable}
 
 -- j bytes of t have been seen
 pub record Seen (t : List ℕ) (j : ℕ) : Type 0 where
@@ -18,14 +17,14 @@ pub record Seen (t : List ℕ) (j : ℕ) : Type 0 where
 pub seen-none : (t : List ℕ) → Seen t 0
 seen-none t = record { below = omega arith; is = refl }
 
-printable-at : (t : List ℕ) (j : ℕ) → j < length t → within 0x20 0x7E (getD t j 0) ≡ true → printable (drop j t) ≡ printable (drop (j + 1) t)
+printable-at : (t : List ℕ) (j : ℕ) → j < length t → plain (getD t j 0) ≡ true → printable (drop j t) ≡ printable (drop (j + 1) t)
 unfolding printable
 printable-at t j h e = rw (drop-cons t j 0 h, e, add-one j)
 
-pub seen-more : {t : List ℕ} {j : ℕ} → Seen t j → j < length t → within 0x20 0x7E (getD t j 0) ≡ true → Seen t (j + 1)
+pub seen-more : {t : List ℕ} {j : ℕ} → Seen t j → j < length t → plain (getD t j 0) ≡ true → Seen t (j + 1)
 seen-more {t} {j} s h e = record { below = omega arith; is = s .is ∙ printable-at t j h e }
 
-pub seen-bad : {t : List ℕ} {j : ℕ} → Seen t j → j < length t → within 0x20 0x7E (getD t j 0) ≡ false → false ≡ printable t
+pub seen-bad : {t : List ℕ} {j : ℕ} → Seen t j → j < length t → plain (getD t j 0) ≡ false → false ≡ printable t
 unfolding printable
 seen-bad {t} {j} s h e = sym (s .is ∙ rw (drop-cons t j 0 h, e))
 

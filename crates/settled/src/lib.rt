@@ -1,6 +1,6 @@
 // What commands seldom touch: geometry, translation, identity and security settings; their limits, and what resets leave of them.
 ghost use mathlib.Core.Path.{_≡_};
-ghost use Rattle.settled.specs.Identity.{printable, identityFits};
+ghost use Rattle.settled.specs.Identity.{plain, printable, identityFits};
 ghost use Rattle.settled.specs.Settled.{withTranslation, withSecurity, settledFits, settledPoweredOn, settledReset};
 use geometry::Geometry;
 use geometry::Translation;
@@ -20,13 +20,19 @@ pub struct Settled {
     pub security: Security,
 }
 
+fn plain(byte: u8) -> bool
+    ensures { λ r. ⌜ r ≡ plain byte ⌝ }
+{
+    base::within(0x20, 0x7E, byte as u16)
+}
+
 // Whether each byte is from 20h to 7Eh.
 fn printable(text: &[u8]) -> bool
     ensures { λ r. ⌜ r ≡ printable (now (text .entry)) ⌝ }
 {
     let mut seen = 0;
     while seen < text.len() {
-        if base::within(0x20, 0x7E, text[seen] as u16) {
+        if plain(text[seen]) {
             seen += 1;
         } else {
             return false;

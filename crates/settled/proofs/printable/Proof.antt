@@ -1,0 +1,54 @@
+-- As long as all bytes seen are printable, the rest decides.
+use Prim.Native.Nat.{_-_}
+use Rattle.settled.proofs.Printing.{Seen, seen-bad, seen-done, seen-more, seen-none}
+use borrow.Author.Needs.{needs}
+use lib.ListN.{length}
+use mathlib.Core.Path.{_∙_, sym}
+use native.Mathlib.Omega.{arith}
+use Rattle.settled.proofs.printable.Statement.{statement}
+use Rattle.settled.proofs.printable.Tie as tie
+
+abbrev Inv-loop : tie.InvT-loop
+Inv-loop text seen₀ seen = Seen text seen
+
+abbrev μ-loop : tie.MeasureT-loop
+μ-loop text seen₀ seen = length text - seen
+
+loop-holds : tie.Need-loop-holds Inv-loop μ-loop
+loop-holds c = seen-none _
+
+shared-slice-read-plain : tie.Need-shared-slice-read-plain Inv-loop μ-loop
+shared-slice-read-plain c = search needs
+
+plain-requires : tie.Need-plain-requires Inv-loop μ-loop
+plain-requires c κs = search needs
+
+add-seen : tie.Need-add-seen Inv-loop μ-loop
+add-seen c = search needs
+
+loop-less : tie.Need-loop-less Inv-loop μ-loop
+loop-less c = search needs
+
+loop-again : tie.Need-loop-again Inv-loop μ-loop
+loop-again c = seen-more (c .before .before .before .before .loop .inv) (omega arith) (sym (c .before .plain .ensures) ∙ c .if1 .taken)
+
+returns : tie.Need-returns Inv-loop μ-loop
+returns c = seen-bad (c .before .before .before .before .loop .inv) (omega arith) (sym (c .before .plain .ensures) ∙ c .if1 .left)
+
+returns-2 : tie.Need-returns-2 Inv-loop μ-loop
+returns-2 c = seen-done (c .before .loop .inv) (omega arith)
+
+pub printable-spec : {M : Type 1} → statement M
+printable-spec =
+    tie.close
+    (tie.spec
+    Inv-loop
+    μ-loop
+    loop-holds
+    shared-slice-read-plain
+    plain-requires
+    add-seen
+    loop-less
+    loop-again
+    returns
+    returns-2)
