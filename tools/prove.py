@@ -261,9 +261,10 @@ def run(*words):
     return done.stdout + done.stderr
 
 
-def check(crate):
-    """The whole of what a check of the crate prints, notes included."""
-    shutil.rmtree(f'target/inc/{crate}', ignore_errors=True)
+def check(crate, anew=False):
+    """What a check of the crate prints: notes on what it has not seen before, or on everything."""
+    if anew:
+        shutil.rmtree(f'target/inc/{crate}', ignore_errors=True)
     return run('rt', 'dev', crate)
 
 
@@ -298,7 +299,7 @@ def make(crate, recipes, pending):
     """Writes the pending proofs as the check prints their lines: a caller's come once its callees with loops are proved."""
     were, made = take_away(crate, pending), []
     context = calls_of_all_crates(), modules_of_names(crate)
-    log = check(crate)
+    log = check(crate, anew=True)
     while pending:
         found = {f: lines for f, lines in skeletons(log, crate).items() if f in pending}
         if not found:

@@ -3,7 +3,7 @@ use Prim.Native.Nat.{ℕ, _/_}
 use lib.Dec.{eqb}
 use Rattle.base.specs.Choice.{pick}
 use Rattle.codes.specs.declared.Command.{Command}
-use Rattle.codes.specs.declared.Command.the-variants.{Unknown, Recalibrate, ReadSectors, WriteSectors, VerifySectors, Seek, ExecuteDiagnostic, InitializeParameters, ReadBuffer, WriteBuffer, IdentifyDevice, SetPassword, Unlock, ErasePrepare, EraseUnit, FreezeLock, DisablePassword}
+use Rattle.codes.specs.declared.Command.the-variants.{Unknown, Recalibrate, ReadSectors, WriteSectors, VerifySectors, Seek, ExecuteDiagnostic, InitializeParameters, ReadBuffer, WriteBuffer, IdentifyDevice, SecuritySetPassword, SecurityUnlock, SecurityErasePrepare, SecurityEraseUnit, SecurityFreezeLock, SecurityDisablePassword}
 
 -- the commands with one or two codes; "All others, 00h included, abort"
 unfoldable pub codedOf : ℕ → Command
@@ -19,12 +19,12 @@ codedOf code =
     (pick (eqb code 0xE4) ReadBuffer
     (pick (eqb code 0xE8) WriteBuffer
     (pick (eqb code 0xEC) IdentifyDevice
-    (pick (eqb code 0xF1) SetPassword
-    (pick (eqb code 0xF2) Unlock
-    (pick (eqb code 0xF3) ErasePrepare
-    (pick (eqb code 0xF4) EraseUnit
-    (pick (eqb code 0xF5) FreezeLock
-    (pick (eqb code 0xF6) DisablePassword
+    (pick (eqb code 0xF1) SecuritySetPassword
+    (pick (eqb code 0xF2) SecurityUnlock
+    (pick (eqb code 0xF3) SecurityErasePrepare
+    (pick (eqb code 0xF4) SecurityEraseUnit
+    (pick (eqb code 0xF5) SecurityFreezeLock
+    (pick (eqb code 0xF6) SecurityDisablePassword
     Unknown))))))))))))))))
 
 -- "70h to 7Fh seek .. 10h to 1Fh recalibrate"

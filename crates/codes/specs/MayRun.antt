@@ -7,7 +7,7 @@ use Rattle.lock.specs.declared.Lock.the-variants.{Open, Locked, Frozen}
 use Rattle.lock.specs.declared.Security.{Security}
 use Rattle.codes.specs.Commands.{decodeOf}
 use Rattle.codes.specs.declared.Command.{Command}
-use Rattle.codes.specs.declared.Command.the-variants.{Unknown, Recalibrate, ReadSectors, WriteSectors, VerifySectors, Seek, ExecuteDiagnostic, InitializeParameters, ReadBuffer, WriteBuffer, IdentifyDevice, SetPassword, Unlock, ErasePrepare, EraseUnit, FreezeLock, DisablePassword}
+use Rattle.codes.specs.declared.Command.the-variants.{Unknown, Recalibrate, ReadSectors, WriteSectors, VerifySectors, Seek, ExecuteDiagnostic, InitializeParameters, ReadBuffer, WriteBuffer, IdentifyDevice, SecuritySetPassword, SecurityUnlock, SecurityErasePrepare, SecurityEraseUnit, SecurityFreezeLock, SecurityDisablePassword}
 
 -- open or frozen
 abbrev pub notLocked : Lock → Bool
@@ -34,12 +34,12 @@ runsIn InitializeParameters l = true
 runsIn ReadBuffer l = true
 runsIn WriteBuffer l = true
 runsIn IdentifyDevice l = true
-runsIn SetPassword l = isOpen l
-runsIn Unlock l = notFrozen l
-runsIn ErasePrepare l = true
-runsIn EraseUnit l = notFrozen l
-runsIn FreezeLock l = notLocked l
-runsIn DisablePassword l = isOpen l
+runsIn SecuritySetPassword l = isOpen l
+runsIn SecurityUnlock l = notFrozen l
+runsIn SecurityErasePrepare l = true
+runsIn SecurityEraseUnit l = notFrozen l
+runsIn SecurityFreezeLock l = notLocked l
+runsIn SecurityDisablePassword l = isOpen l
 
 -- whether a code may run in a lock state
 unfoldable pub mayRunOf : ℕ → Lock → Bool
@@ -58,9 +58,9 @@ barredOf InitializeParameters s = false
 barredOf ReadBuffer s = false
 barredOf WriteBuffer s = false
 barredOf IdentifyDevice s = false
-barredOf SetPassword s = false
-barredOf Unlock s = exhaustedOf s
-barredOf ErasePrepare s = false
-barredOf EraseUnit s = cannotErase s
-barredOf FreezeLock s = false
-barredOf DisablePassword s = false
+barredOf SecuritySetPassword s = false
+barredOf SecurityUnlock s = exhaustedOf s
+barredOf SecurityErasePrepare s = false
+barredOf SecurityEraseUnit s = cannotErase s
+barredOf SecurityFreezeLock s = false
+barredOf SecurityDisablePassword s = false

@@ -18,12 +18,12 @@ pub enum Command {
     ReadBuffer,
     WriteBuffer,
     IdentifyDevice,
-    SetPassword,
-    Unlock,
-    ErasePrepare,
-    EraseUnit,
-    FreezeLock,
-    DisablePassword,
+    SecuritySetPassword,
+    SecurityUnlock,
+    SecurityErasePrepare,
+    SecurityEraseUnit,
+    SecurityFreezeLock,
+    SecurityDisablePassword,
 }
 
 // The commands with one or two codes each.
@@ -42,12 +42,12 @@ fn coded(code: u8) -> Command
         0xE4 => Command::ReadBuffer,
         0xE8 => Command::WriteBuffer,
         0xEC => Command::IdentifyDevice,
-        0xF1 => Command::SetPassword,
-        0xF2 => Command::Unlock,
-        0xF3 => Command::ErasePrepare,
-        0xF4 => Command::EraseUnit,
-        0xF5 => Command::FreezeLock,
-        0xF6 => Command::DisablePassword,
+        0xF1 => Command::SecuritySetPassword,
+        0xF2 => Command::SecurityUnlock,
+        0xF3 => Command::SecurityErasePrepare,
+        0xF4 => Command::SecurityEraseUnit,
+        0xF5 => Command::SecurityFreezeLock,
+        0xF6 => Command::SecurityDisablePassword,
         _ => Command::Unknown,
     }
 }
@@ -102,12 +102,12 @@ impl Command {
             Command::ReadBuffer => true,
             Command::WriteBuffer => true,
             Command::IdentifyDevice => true,
-            Command::SetPassword => lock.open(),
-            Command::Unlock => not_frozen(lock),
-            Command::ErasePrepare => true,
-            Command::EraseUnit => not_frozen(lock),
-            Command::FreezeLock => not_locked(lock),
-            Command::DisablePassword => lock.open(),
+            Command::SecuritySetPassword => lock.open(),
+            Command::SecurityUnlock => not_frozen(lock),
+            Command::SecurityErasePrepare => true,
+            Command::SecurityEraseUnit => not_frozen(lock),
+            Command::SecurityFreezeLock => not_locked(lock),
+            Command::SecurityDisablePassword => lock.open(),
         }
     }
 
@@ -127,12 +127,12 @@ impl Command {
             Command::ReadBuffer => false,
             Command::WriteBuffer => false,
             Command::IdentifyDevice => false,
-            Command::SetPassword => false,
-            Command::Unlock => security.exhausted(),
-            Command::ErasePrepare => false,
-            Command::EraseUnit => security.cannot_erase(),
-            Command::FreezeLock => false,
-            Command::DisablePassword => false,
+            Command::SecuritySetPassword => false,
+            Command::SecurityUnlock => security.exhausted(),
+            Command::SecurityErasePrepare => false,
+            Command::SecurityEraseUnit => security.cannot_erase(),
+            Command::SecurityFreezeLock => false,
+            Command::SecurityDisablePassword => false,
         }
     }
 }

@@ -1,0 +1,7 @@
+pub mod Registers
+pub mod Face
+pub mod Reads
+pub mod Writes
+pub mod Ends
+pub mod Resets
+pub mod Quick

@@ -1,0 +1,576 @@
+// All that a guest's answers may depend on: the register file and the transfer (hot), what commands seldom touch (settled), the buffer.
+ghost use mathlib.Core.Path.{_≡_};
+ghost use Prim.Native.Nat.{_<_};
+ghost use Rattle.face.specs.Registers.{startAddress, startRegisters, withError, withFeatures, withCount, withAt, withLow, withHigh, withDeviceHead};
+ghost use Rattle.face.specs.Face.{noSignals, startHot, withRegs, withSignals, withTransfer, withHot, withSettled, withBuffer};
+ghost use Rattle.face.specs.Reads.{isIdle, statusOf, seen, quietOf, readRegister, lineOf};
+ghost use Rattle.face.specs.Writes.{busyOf, storeRegister, putRegister, srstOf, nienOf, heldHot, releasedOf};
+ghost use Rattle.face.specs.Ends.{clearedOf, raisedOf, finishOf, failOf, endedAt};
+ghost use Rattle.face.specs.Resets.{dropPurpose, dropAs, droppedOf, softResetOf, poweredOnFace, controlOf};
+ghost use Rattle.face.specs.Quick.{nextWord, nextPasswordWord, quickReadOf, quickWriteOf, quickWriteBuffer, quickPutOf, quickOf, quickBuffer};
+use address::AddressRegisters;
+use lock::Purpose;
+use settled::Settled;
+
+// Registers 1 to 6: Error as read, Features as written, Sector Count, and the address.
+pub struct Registers {
+    pub error: u8,
+    pub features: u8,
+    pub count: u8,
+    pub at: AddressRegisters,
+}
+
+// Reset held (SRST), interrupt masked (nIEN), interrupt raised, and whether the last command failed.
+pub struct Signals {
+    pub held: bool,
+    pub masked: bool,
+    pub raised: bool,
+    pub failed: bool,
+}
+
+// A sector transfer: its current sector's address, how many sectors come after that one, and the place of the next word.
+pub struct Run {
+    pub at: AddressRegisters,
+    pub after: u8,
+    pub word: u8,
+}
+
+// A password block on its way: what it is for, and the place of the next word.
+pub struct PasswordBlock {
+    pub purpose: Purpose,
+    pub word: u8,
+}
+
+// The transfer that is open. READ BUFFER and IDENTIFY both hand the buffer out.
+pub enum Transfer {
+    Idle,
+    Reading(Run),
+    Writing(Run),
+    ReadingBuffer(u8),
+    WritingBuffer(u8),
+    TakingPassword(PasswordBlock),
+}
+
+// The register file and the transfer: no arrays.
+pub struct Hot {
+    pub regs: Registers,
+    pub signals: Signals,
+    pub transfer: Transfer,
+}
+
+pub struct Face {
+    pub hot: Hot,
+    pub settled: Settled,
+    pub buffer: [u8; 512],
+}
+
+// The host's actions.
+pub enum Action {
+    ReadRegister(u8),
+    WriteRegister(u8, u8),
+    ReadWord,
+    WriteWord(u16),
+    HardwareReset,
+    PowerOn,
+    Line,
+}
+
+// The answers, by the paper's numbers 0 to 4 and 6.
+pub enum Answer {
+    Done,
+    NoRegister,
+    OutOfShape,
+    WrongLength,
+    NoTransfer,
+    SetupRefused,
+}
+
+// What an action on the hot part alone shows.
+pub struct Seen {
+    pub hot: Hot,
+    pub answer: Answer,
+    pub value: u16,
+}
+
+// What the hot part and the buffer settle, or that more is needed.
+pub enum Quick {
+    Settles(Seen),
+    Slow,
+}
+
+fn start_registers() -> Registers
+    ensures { λ r. ⌜ r ≡ startRegisters ⌝ }
+{
+    let at = AddressRegisters {
+        sector: 1,
+        low: 0,
+        high: 0,
+        head: 0,
+    };
+    Registers {
+        error: 1,
+        features: 0,
+        count: 1,
+        at,
+    }
+}
+
+fn no_signals() -> Signals
+    ensures { λ r. ⌜ r ≡ noSignals ⌝ }
+{
+    Signals {
+        held: false,
+        masked: false,
+        raised: false,
+        failed: false,
+    }
+}
+
+impl Hot {
+    fn start() -> Hot
+        ensures { λ r. ⌜ r ≡ startHot ⌝ }
+    {
+        let regs = start_registers();
+        let signals = no_signals();
+        Hot {
+            regs,
+            signals,
+            transfer: Transfer::Idle,
+        }
+    }
+
+    pub fn with_transfer(self, transfer: Transfer) -> Hot
+        ensures { λ r. ⌜ r ≡ withTransfer self transfer ⌝ }
+    {
+        let regs = self.regs;
+        let signals = self.signals;
+        Hot {
+            regs,
+            signals,
+            transfer,
+        }
+    }
+
+    fn with_regs(mut self, regs: Registers) -> Hot
+        ensures { λ r. ⌜ r ≡ withRegs self regs ⌝ }
+    {
+        self.regs = regs;
+        self
+    }
+
+    pub fn idle(self) -> bool
+        ensures { λ r. ⌜ r ≡ isIdle (self .transfer) ⌝ }
+    {
+        let t = self.transfer;
+        match t {
+            Transfer::Idle => true,
+            Transfer::Reading(r) => false,
+            Transfer::Writing(r) => false,
+            Transfer::ReadingBuffer(n) => false,
+            Transfer::WritingBuffer(n) => false,
+            Transfer::TakingPassword(b) => false,
+        }
+    }
+
+    // Status, but for DEV.
+    fn status(self) -> u8
+        ensures { λ r. ⌜ r ≡ statusOf self ⌝ }
+    {
+        if self.signals.held {
+            return 0x80;
+        }
+        if self.idle() {
+            if self.signals.failed {
+                return 0x51;
+            }
+            return 0x50;
+        }
+        0x58
+    }
+
+    fn shows(self, answer: Answer, value: u16) -> Seen
+        ensures { λ r. ⌜ r ≡ seen self answer value ⌝ }
+    {
+        Seen {
+            hot: self,
+            answer,
+            value,
+        }
+    }
+
+    fn quiet(mut self) -> Hot
+        ensures { λ r. ⌜ r ≡ quietOf self ⌝ }
+    {
+        self.signals.raised = false;
+        self
+    }
+
+    // A register is read, but for DEV.
+    pub fn read_register(self, n: u8) -> Seen
+        ensures { λ r. ⌜ r ≡ readRegister self n ⌝ }
+    {
+        match n {
+            1 => self.shows(Answer::Done, self.regs.error as u16),
+            2 => self.shows(Answer::Done, self.regs.count as u16),
+            3 => self.shows(Answer::Done, self.regs.at.sector as u16),
+            4 => self.shows(Answer::Done, self.regs.at.low as u16),
+            5 => self.shows(Answer::Done, self.regs.at.high as u16),
+            6 => self.shows(Answer::Done, self.regs.at.head as u16),
+            7 => self.quiet().shows(Answer::Done, self.status() as u16),
+            8 => self.shows(Answer::Done, self.status() as u16),
+            _ => self.shows(Answer::NoRegister, 0),
+        }
+    }
+
+    // The interrupt line: raised and not masked.
+    pub fn line(self) -> u16
+        ensures { λ r. ⌜ r ≡ lineOf self ⌝ }
+    {
+        if self.signals.raised {
+            if self.signals.masked {
+                return 0;
+            }
+            return 1;
+        }
+        0
+    }
+
+    // Reset held, or a transfer open: writes to registers 1 to 6 do nothing.
+    fn busy(self) -> bool
+        ensures { λ r. ⌜ r ≡ busyOf self ⌝ }
+    {
+        if self.signals.held {
+            return true;
+        }
+        if self.idle() {
+            return false;
+        }
+        true
+    }
+
+    fn store_register(mut self, n: u8, v: u8) -> Hot
+        ensures { λ r. ⌜ r ≡ storeRegister self n v ⌝ }
+    {
+        match n {
+            1 => {
+                self.regs.features = v;
+                return self;
+            }
+            2 => {
+                self.regs.count = v;
+                return self;
+            }
+            3 => {
+                self.regs.at.sector = v;
+                return self;
+            }
+            4 => {
+                self.regs.at.low = v;
+                return self;
+            }
+            5 => {
+                self.regs.at.high = v;
+                return self;
+            }
+            _ => {
+                self.regs.at.head = v;
+                return self;
+            }
+        }
+    }
+
+    // One of registers 1 to 6 is written.
+    pub fn put_register(self, n: u8, v: u8) -> Hot
+        ensures { λ r. ⌜ r ≡ putRegister self n v ⌝ }
+    {
+        if self.busy() {
+            return self;
+        }
+        self.store_register(n, v)
+    }
+
+    // Device Control with SRST clear.
+    fn released(mut self, masked: bool) -> Hot
+        ensures { λ r. ⌜ r ≡ releasedOf self masked ⌝ }
+    {
+        self.signals.held = false;
+        self.signals.masked = masked;
+        self
+    }
+
+    // Registers and signals while SRST is held.
+    fn held(masked: bool) -> Hot
+        ensures { λ r. ⌜ r ≡ heldHot masked ⌝ }
+    {
+        let mut hot = Hot::start();
+        hot.signals.held = true;
+        hot.signals.masked = masked;
+        hot
+    }
+
+    // A command starts.
+    pub fn cleared(mut self) -> Hot
+        ensures { λ r. ⌜ r ≡ clearedOf self ⌝ }
+    {
+        self.regs.error = 0;
+        self.signals.raised = false;
+        self.signals.failed = false;
+        self
+    }
+
+    // A block is ready to be read, or the next one to be written is wanted.
+    pub fn raised(mut self, transfer: Transfer) -> Hot
+        ensures { λ r. ⌜ r ≡ raisedOf self transfer ⌝ }
+    {
+        self.signals.raised = true;
+        self.with_transfer(transfer)
+    }
+
+    // A command ends well.
+    pub fn finish(self) -> Hot
+        ensures { λ r. ⌜ r ≡ finishOf self ⌝ }
+    {
+        self.raised(Transfer::Idle)
+    }
+
+    // A command ends with an error.
+    pub fn fail(mut self, error: u8) -> Hot
+        ensures { λ r. ⌜ r ≡ failOf self error ⌝ }
+    {
+        self.regs.error = error;
+        self.signals.failed = true;
+        self.raised(Transfer::Idle)
+    }
+
+    // Registers 2 to 6 where a sector command ends.
+    pub fn ended_at(self, at: AddressRegisters, count: u8) -> Hot
+        ensures { λ r. ⌜ r ≡ endedAt self at count ⌝ }
+    {
+        let mut regs = self.regs;
+        regs.count = count;
+        regs.at = at;
+        self.with_regs(regs)
+    }
+
+    // EXECUTE DEVICE DIAGNOSTIC's register values.
+    pub fn restarted(self) -> Hot
+        ensures { λ r. ⌜ r ≡ withRegs self startRegisters ⌝ }
+    {
+        self.with_regs(start_registers())
+    }
+}
+
+impl Run {
+    fn next_word(mut self) -> Run
+        requires { ⌜ self .word < 255 ⌝ }
+        ensures { λ r. ⌜ r ≡ nextWord self ⌝ }
+    {
+        self.word = self.word + 1;
+        self
+    }
+}
+
+impl PasswordBlock {
+    fn next_word(mut self) -> PasswordBlock
+        requires { ⌜ self .word < 255 ⌝ }
+        ensures { λ r. ⌜ r ≡ nextPasswordWord self ⌝ }
+    {
+        self.word = self.word + 1;
+        self
+    }
+}
+
+impl Hot {
+    fn quick_read(self, buffer: &[u8; 512]) -> Quick
+        ensures { λ r. ⌜ r ≡ quickReadOf self (now (buffer .entry)) (self .transfer) ⌝ }
+    {
+        let t = self.transfer;
+        match t {
+            Transfer::Idle => Quick::Slow,
+            Transfer::Reading(r) => {
+                if r.word < 255 {
+                    let v = block::word_at(buffer, r.word);
+                    let h = self.with_transfer(Transfer::Reading(r.next_word()));
+                    return Quick::Settles(h.shows(Answer::Done, v));
+                }
+                Quick::Slow
+            }
+            Transfer::Writing(r) => Quick::Slow,
+            Transfer::ReadingBuffer(n) => {
+                if n < 255 {
+                    let v = block::word_at(buffer, n);
+                    let h = self.with_transfer(Transfer::ReadingBuffer(n + 1));
+                    return Quick::Settles(h.shows(Answer::Done, v));
+                }
+                Quick::Slow
+            }
+            Transfer::WritingBuffer(n) => Quick::Slow,
+            Transfer::TakingPassword(b) => Quick::Slow,
+        }
+    }
+
+    fn quick_write(self, buffer: &mut [u8; 512], w: u16) -> Quick
+        ensures { λ r. ⌜ (r ≡ quickWriteOf self (self .transfer)) × (now (buffer .exit) ≡ quickWriteBuffer (now (buffer .entry)) w (self .transfer)) ⌝ }
+    {
+        let t = self.transfer;
+        match t {
+            Transfer::Idle => Quick::Slow,
+            Transfer::Reading(r) => Quick::Slow,
+            Transfer::Writing(r) => {
+                if r.word < 255 {
+                    block::put_word(buffer, r.word, w);
+                    let h = self.with_transfer(Transfer::Writing(r.next_word()));
+                    return Quick::Settles(h.shows(Answer::Done, 0));
+                }
+                Quick::Slow
+            }
+            Transfer::ReadingBuffer(n) => Quick::Slow,
+            Transfer::WritingBuffer(n) => {
+                if n < 255 {
+                    block::put_word(buffer, n, w);
+                    let h = self.with_transfer(Transfer::WritingBuffer(n + 1));
+                    return Quick::Settles(h.shows(Answer::Done, 0));
+                }
+                Quick::Slow
+            }
+            Transfer::TakingPassword(b) => {
+                if b.word < 255 {
+                    block::put_word(buffer, b.word, w);
+                    let h = self.with_transfer(Transfer::TakingPassword(b.next_word()));
+                    return Quick::Settles(h.shows(Answer::Done, 0));
+                }
+                Quick::Slow
+            }
+        }
+    }
+
+    fn quick_put(self, n: u8, v: u8) -> Quick
+        ensures { λ r. ⌜ r ≡ quickPutOf self n v ⌝ }
+    {
+        if base::within(1, 6, n as u16) {
+            return Quick::Settles(self.put_register(n, v).shows(Answer::Done, 0));
+        }
+        Quick::Slow
+    }
+
+    // The fast path: an action that the hot part and the buffer settle, but for DEV.
+    pub fn quick(self, buffer: &mut [u8; 512], action: Action) -> Quick
+        ensures { λ r. ⌜ (r ≡ quickOf self (now (buffer .entry)) action) × (now (buffer .exit) ≡ quickBuffer self (now (buffer .entry)) action) ⌝ }
+    {
+        match action {
+            Action::ReadRegister(n) => Quick::Settles(self.read_register(n)),
+            Action::WriteRegister(n, v) => self.quick_put(n, v),
+            Action::ReadWord => self.quick_read(buffer),
+            Action::WriteWord(w) => self.quick_write(buffer, w),
+            Action::HardwareReset => Quick::Slow,
+            Action::PowerOn => Quick::Slow,
+            Action::Line => Quick::Settles(self.shows(Answer::Done, self.line())),
+        }
+    }
+}
+
+impl Face {
+    pub fn with_hot(mut self, hot: Hot) -> Face
+        ensures { λ r. ⌜ r ≡ withHot self hot ⌝ }
+    {
+        self.hot = hot;
+        self
+    }
+
+    pub fn with_settled(mut self, settled: Settled) -> Face
+        ensures { λ r. ⌜ r ≡ withSettled self settled ⌝ }
+    {
+        self.settled = settled;
+        self
+    }
+
+    pub fn with_buffer(mut self, buffer: [u8; 512]) -> Face
+        ensures { λ r. ⌜ r ≡ withBuffer self buffer ⌝ }
+    {
+        self.buffer = buffer;
+        self
+    }
+
+    // What the drop of a password block clears besides.
+    fn drop_purpose(self, purpose: Purpose) -> Face
+        ensures { λ r. ⌜ r ≡ dropPurpose self purpose ⌝ }
+    {
+        match purpose {
+            Purpose::Set => self,
+            Purpose::Unlock => self,
+            Purpose::Erase => {
+                let settled = self.settled;
+                let security = settled.security;
+                self.with_settled(settled.with_security(security.unprepare()))
+            }
+            Purpose::Disable => self,
+        }
+    }
+
+    // A Command write drops the transfer.
+    pub fn drop_transfer(self) -> Face
+        ensures { λ r. ⌜ r ≡ droppedOf self ⌝ }
+    {
+        let hot = self.hot;
+        let t = hot.transfer;
+        match t {
+            Transfer::Idle => self,
+            Transfer::Reading(r) => self.with_hot(hot.with_transfer(Transfer::Idle)),
+            Transfer::Writing(r) => self.with_hot(hot.with_transfer(Transfer::Idle)),
+            Transfer::ReadingBuffer(n) => self.with_hot(hot.with_transfer(Transfer::Idle)),
+            Transfer::WritingBuffer(n) => self.with_hot(hot.with_transfer(Transfer::Idle)),
+            Transfer::TakingPassword(b) => {
+                let purpose = b.purpose;
+                self.with_hot(hot.with_transfer(Transfer::Idle))
+                    .with_buffer(block::zeros())
+                    .drop_purpose(purpose)
+            }
+        }
+    }
+
+    // Setting SRST.
+    fn soft_reset(self, masked: bool) -> Face
+        ensures { λ r. ⌜ r ≡ softResetOf self masked ⌝ }
+    {
+        let settled = self.settled;
+        self.with_hot(Hot::held(masked))
+            .with_settled(settled.reset())
+            .with_buffer(block::zeros())
+    }
+
+    // Power-on and hardware reset.
+    pub fn power_on(self) -> Face
+        ensures { λ r. ⌜ r ≡ poweredOnFace self ⌝ }
+    {
+        let settled = self.settled;
+        self.with_hot(Hot::start())
+            .with_settled(settled.power_on())
+            .with_buffer(block::zeros())
+    }
+
+    // A write to Device Control.
+    pub fn control(self, v: u8) -> Face
+        ensures { λ r. ⌜ r ≡ controlOf self v ⌝ }
+    {
+        let hot = self.hot;
+        let masked = nien(v);
+        if srst(v) {
+            return self.soft_reset(masked);
+        }
+        self.with_hot(hot.released(masked))
+    }
+}
+
+// Device Control bit 2.
+fn srst(v: u8) -> bool
+    ensures { λ r. ⌜ r ≡ srstOf v ⌝ }
+{
+    v / 4 % 2 == 1
+}
+
+// Device Control bit 1.
+fn nien(v: u8) -> bool
+    ensures { λ r. ⌜ r ≡ nienOf v ⌝ }
+{
+    v / 2 % 2 == 1
+}
