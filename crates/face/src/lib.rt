@@ -361,7 +361,7 @@ impl Hot {
 }
 
 impl Run {
-    fn next_word(mut self) -> Run
+    pub fn next_word(mut self) -> Run
         requires { ⌜ self .word < 255 ⌝ }
         ensures { λ r. ⌜ r ≡ nextWord self ⌝ }
     {
@@ -371,7 +371,7 @@ impl Run {
 }
 
 impl PasswordBlock {
-    fn next_word(mut self) -> PasswordBlock
+    pub fn next_word(mut self) -> PasswordBlock
         requires { ⌜ self .word < 255 ⌝ }
         ensures { λ r. ⌜ r ≡ nextPasswordWord self ⌝ }
     {
