@@ -51,6 +51,10 @@ nextRun r t = runAt (successorOf t (r .at)) (r .after - 1)
 abbrev pub abortFace : Face → Face
 abortFace f = withHot f (abortOf (f .hot))
 
+-- a command ends well
+abbrev pub finishFace : Face → Face
+finishFace f = withHot f (finishOf (f .hot))
+
 -- "Error 10h, Status 51h, the bad address, and the sectors left including it, 256 shown as 00h"
 unfoldable pub notFoundOf : Face → Run → Face
 notFoundOf f r = withHot f (idnfOf (f .hot) (r .at) ((r .after + 1) % 256))

@@ -1,7 +1,7 @@
 // Sector commands where they reach a sector, and the data words of sector and buffer transfers.
 ghost use mathlib.Core.Path.{_≡_};
 ghost use Prim.Native.Nat.{_<_};
-ghost use Rattle.transfers.specs.Sectors.{Memory, located, afterOf, firstRun, nextRun, abortFace, notFoundOf, readAt, readSectorsOf, writeAt, writeSectorsOf, verifyLast, verifySectorsOf};
+ghost use Rattle.transfers.specs.Sectors.{Memory, located, afterOf, firstRun, nextRun, abortFace, finishFace, notFoundOf, readAt, readSectorsOf, writeAt, writeSectorsOf, verifyLast, verifySectorsOf};
 ghost use Rattle.transfers.specs.Words.{told, readNextOf, readRunOf, readBufferWord, readWordOf, wordIn, wantAt, writeNextOf, writeLastOf, writeLastSectors, writeRunOf, writeRunSectors, writeBufferWord};
 use address::Address;
 use address::AddressRegisters;
@@ -61,11 +61,20 @@ fn next_run(run: Run, translation: Translation) -> Run
     }
 }
 
+// A command aborts.
 pub fn abort(face: Face) -> Face
     ensures { λ r. ⌜ r ≡ abortFace face ⌝ }
 {
     let hot = face.hot;
     face.with_hot(hot.fail(0x04))
+}
+
+// A command ends well.
+pub fn finish(face: Face) -> Face
+    ensures { λ r. ⌜ r ≡ finishFace face ⌝ }
+{
+    let hot = face.hot;
+    face.with_hot(hot.finish())
 }
 
 // A bad address ends a sector command: the address, and the sectors left including it, 256 shown as 00h.
@@ -164,7 +173,8 @@ pub fn verify_sectors(face: Face) -> Face
     verify_last(face, at)
 }
 
-fn tells(face: Face, answer: Answer, value: u16) -> Told
+// What an action on the face shows.
+pub fn tells(face: Face, answer: Answer, value: u16) -> Told
     ensures { λ r. ⌜ r ≡ told face answer value ⌝ }
 {
     Told {

@@ -1,0 +1,26 @@
+-- The words in the buffer, ready to be read.
+use Rattle.commands.specs.Others.{identifyDeviceOf}
+use borrow.Author.Needs.{needs}
+use Rattle.commands.proofs.identify_device.Statement.{statement}
+use Rattle.commands.proofs.identify_device.Tie as tie
+
+identify-requires : tie.Need-identify-requires
+identify-requires c κs = search needs
+
+raised-requires : tie.Need-raised-requires
+raised-requires c κs = search needs
+
+with-hot-requires : tie.Need-with-hot-requires
+with-hot-requires c κs = search needs
+
+with-buffer-requires : tie.Need-with-buffer-requires
+with-buffer-requires c κs = search needs
+
+returns : tie.Need-returns
+unfolding identifyDeviceOf
+returns c = simp (c .with-buffer .ensures, c .before .with-hot .ensures, c .before .before .raised .ensures, c .before .before .before .identify .ensures)
+
+pub identify-device-spec : {M : Type 1} → statement M
+identify-device-spec =
+    tie.close
+    (tie.spec identify-requires raised-requires with-hot-requires with-buffer-requires returns)

@@ -1,0 +1,3 @@
+pub mod SecurityWord
+pub mod Words
+pub mod Identify
