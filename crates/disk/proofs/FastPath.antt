@@ -1,0 +1,119 @@
+-- The fast path is the action: whatever the hot part and the buffer settle, the word-by-word definition gives, for every disk and action.
+use mathlib.Core.Bool.{Bool, true, false}
+use mathlib.Core.Path.{_≡_, refl}
+use mathlib.Core.List.{List}
+use Prim.Native.Nat.{ℕ}
+use lib.Dec.{ltb}
+use Rattle.base.specs.Choice.{pick, within}
+use Rattle.lock.specs.declared.Secrets.{Secrets}
+use Rattle.face.specs.Face.{withHot, withBuffer}
+use Rattle.face.specs.Quick.{quickReadOf, quickWriteOf, quickWriteBuffer, quickPutOf, quickOf, quickBuffer}
+use Rattle.face.specs.declared.Face.{Face}
+use Rattle.face.specs.declared.Run.{Run}
+use Rattle.face.specs.declared.PasswordBlock.{PasswordBlock}
+use Rattle.face.specs.declared.Transfer.{Transfer}
+use Rattle.face.specs.declared.Transfer.the-variants.{Idle, Reading, Writing, ReadingBuffer, WritingBuffer, TakingPassword}
+use Rattle.face.specs.declared.Action.{Action}
+use Rattle.face.specs.declared.Action.the-variants.{ReadRegister, WriteRegister, ReadWord, WriteWord, HardwareReset, PowerOn, Line}
+use Rattle.face.specs.declared.Quick.{Quick}
+use Rattle.face.specs.declared.Quick.the-variants.{Settles, Slow}
+use Rattle.transfers.specs.Words.{readWordAs, readWordOf, readRunOf, readBufferWord, writeRunOf, writeRunSectors, writeBufferWord}
+use Rattle.disk.specs.Passwords.{acted, passwordWord, passwordWordSectors}
+use Rattle.disk.specs.Actions.{Effect, effect, seenActed, toldActed, writeRegisterOf, writeWordAs, writeWordOf, actOf}
+
+-- what the fast path settled, put in place; else what the long way gives
+abbrev pub quickThen : Face → Secrets → List ℕ → List ℕ → Quick → Effect → Effect
+quickThen f x m b (Settles s) slow = effect (seenActed (withBuffer f b) x s) m
+quickThen f x m b Slow slow = slow
+
+quick-reading : (f : Face) (x : Secrets) (m : List ℕ) (r : Run)
+    → effect (toldActed x (readWordAs f m (Reading r))) m ≡ quickThen f x m (f .buffer) (quickReadOf (f .hot) (f .buffer) (Reading r)) (effect (toldActed x (readWordAs f m (Reading r))) m)
+unfolding quickReadOf readRunOf
+quick-reading f x m r = go (ltb (r .word) 255) refl
+  where
+    go : (b : Bool) → ltb (r .word) 255 ≡ b
+        → effect (toldActed x (readWordAs f m (Reading r))) m ≡ quickThen f x m (f .buffer) (quickReadOf (f .hot) (f .buffer) (Reading r)) (effect (toldActed x (readWordAs f m (Reading r))) m)
+    go true e = simp e
+    go false e = simp e
+
+quick-reading-buffer : (f : Face) (x : Secrets) (m : List ℕ) (n : ℕ)
+    → effect (toldActed x (readWordAs f m (ReadingBuffer n))) m ≡ quickThen f x m (f .buffer) (quickReadOf (f .hot) (f .buffer) (ReadingBuffer n)) (effect (toldActed x (readWordAs f m (ReadingBuffer n))) m)
+unfolding quickReadOf readBufferWord
+quick-reading-buffer f x m n = go (ltb n 255) refl
+  where
+    go : (b : Bool) → ltb n 255 ≡ b
+        → effect (toldActed x (readWordAs f m (ReadingBuffer n))) m ≡ quickThen f x m (f .buffer) (quickReadOf (f .hot) (f .buffer) (ReadingBuffer n)) (effect (toldActed x (readWordAs f m (ReadingBuffer n))) m)
+    go true e = simp e
+    go false e = simp e
+
+quick-read : (f : Face) (x : Secrets) (m : List ℕ) (t : Transfer)
+    → effect (toldActed x (readWordAs f m t)) m ≡ quickThen f x m (f .buffer) (quickReadOf (f .hot) (f .buffer) t) (effect (toldActed x (readWordAs f m t)) m)
+unfolding quickReadOf
+quick-read f x m Idle = refl
+quick-read f x m (Reading r) = quick-reading f x m r
+quick-read f x m (Writing r) = refl
+quick-read f x m (ReadingBuffer n) = quick-reading-buffer f x m n
+quick-read f x m (WritingBuffer n) = refl
+quick-read f x m (TakingPassword b) = refl
+
+quick-writing : (f : Face) (x : Secrets) (m : List ℕ) (w : ℕ) (r : Run)
+    → writeWordAs f x m w (Writing r) ≡ quickThen f x m (quickWriteBuffer (f .buffer) w (Writing r)) (quickWriteOf (f .hot) (Writing r)) (writeWordAs f x m w (Writing r))
+unfolding quickWriteOf quickWriteBuffer writeRunOf writeRunSectors
+quick-writing f x m w r = go (ltb (r .word) 255) refl
+  where
+    go : (b : Bool) → ltb (r .word) 255 ≡ b
+        → writeWordAs f x m w (Writing r) ≡ quickThen f x m (quickWriteBuffer (f .buffer) w (Writing r)) (quickWriteOf (f .hot) (Writing r)) (writeWordAs f x m w (Writing r))
+    go true e = simp e
+    go false e = simp e
+
+quick-writing-buffer : (f : Face) (x : Secrets) (m : List ℕ) (w n : ℕ)
+    → writeWordAs f x m w (WritingBuffer n) ≡ quickThen f x m (quickWriteBuffer (f .buffer) w (WritingBuffer n)) (quickWriteOf (f .hot) (WritingBuffer n)) (writeWordAs f x m w (WritingBuffer n))
+unfolding quickWriteOf quickWriteBuffer writeBufferWord
+quick-writing-buffer f x m w n = go (ltb n 255) refl
+  where
+    go : (b : Bool) → ltb n 255 ≡ b
+        → writeWordAs f x m w (WritingBuffer n) ≡ quickThen f x m (quickWriteBuffer (f .buffer) w (WritingBuffer n)) (quickWriteOf (f .hot) (WritingBuffer n)) (writeWordAs f x m w (WritingBuffer n))
+    go true e = simp e
+    go false e = simp e
+
+quick-password : (f : Face) (x : Secrets) (m : List ℕ) (w : ℕ) (p : PasswordBlock)
+    → writeWordAs f x m w (TakingPassword p) ≡ quickThen f x m (quickWriteBuffer (f .buffer) w (TakingPassword p)) (quickWriteOf (f .hot) (TakingPassword p)) (writeWordAs f x m w (TakingPassword p))
+unfolding quickWriteOf quickWriteBuffer passwordWord passwordWordSectors
+quick-password f x m w p = go (ltb (p .word) 255) refl
+  where
+    go : (b : Bool) → ltb (p .word) 255 ≡ b
+        → writeWordAs f x m w (TakingPassword p) ≡ quickThen f x m (quickWriteBuffer (f .buffer) w (TakingPassword p)) (quickWriteOf (f .hot) (TakingPassword p)) (writeWordAs f x m w (TakingPassword p))
+    go true e = simp e
+    go false e = simp e
+
+quick-write : (f : Face) (x : Secrets) (m : List ℕ) (w : ℕ) (t : Transfer)
+    → writeWordAs f x m w t ≡ quickThen f x m (quickWriteBuffer (f .buffer) w t) (quickWriteOf (f .hot) t) (writeWordAs f x m w t)
+unfolding quickWriteOf quickWriteBuffer
+quick-write f x m w Idle = refl
+quick-write f x m w (Reading r) = refl
+quick-write f x m w (Writing r) = quick-writing f x m w r
+quick-write f x m w (ReadingBuffer n) = refl
+quick-write f x m w (WritingBuffer n) = quick-writing-buffer f x m w n
+quick-write f x m w (TakingPassword p) = quick-password f x m w p
+
+quick-put : (f : Face) (x : Secrets) (m : List ℕ) (n v : ℕ)
+    → effect (toldActed x (writeRegisterOf f m n v)) m ≡ quickThen f x m (f .buffer) (quickPutOf (f .hot) n v) (effect (toldActed x (writeRegisterOf f m n v)) m)
+unfolding quickPutOf writeRegisterOf
+quick-put f x m n v = go (within 1 6 n) refl
+  where
+    go : (b : Bool) → within 1 6 n ≡ b
+        → effect (toldActed x (writeRegisterOf f m n v)) m ≡ quickThen f x m (f .buffer) (quickPutOf (f .hot) n v) (effect (toldActed x (writeRegisterOf f m n v)) m)
+    go true e = simp e
+    go false e = simp e
+
+-- with no hypothesis at all
+pub quick-act : (f : Face) (x : Secrets) (m : List ℕ) (a : Action)
+    → actOf f x m a ≡ quickThen f x m (quickBuffer (f .hot) (f .buffer) a) (quickOf (f .hot) (f .buffer) a) (actOf f x m a)
+unfolding actOf quickOf quickBuffer readWordOf writeWordOf
+quick-act f x m (ReadRegister n) = refl
+quick-act f x m (WriteRegister n v) = quick-put f x m n v
+quick-act f x m ReadWord = quick-read f x m (f .hot .transfer)
+quick-act f x m (WriteWord w) = quick-write f x m w (f .hot .transfer)
+quick-act f x m HardwareReset = refl
+quick-act f x m PowerOn = refl
+quick-act f x m Line = refl

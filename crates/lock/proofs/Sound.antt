@@ -1,0 +1,106 @@
+-- Security settings in shape, said by their bounds; every change to them that a command, a password block or a reset makes keeps them so.
+use mathlib.Core.Bool.{Bool, true, false}
+use mathlib.Core.Path.{_≡_, refl, sym, _∙_}
+use mathlib.Core.List.{List}
+use Prim.Native.Nat.{ℕ, _-_, _≤_}
+use native.Mathlib.Omega.{arith}
+use borrow.Author.Tests.{le-leb, leb-true}
+use lib.Dec.{leb, ltb}
+use Rattle.base.specs.Choice.{pick}
+use Rattle.base.proofs.Tests.{false≢true, both-true}
+use Rattle.lock.specs.Lock.{isLocked, openedOf, frozenOf, preparedOf, unpreparedOf, mismatchedOf, enabledAt, disabledOf, startingLock, poweredOn, securityFits}
+use Rattle.lock.specs.Passwords.{masterPicked, maximumAsked, matchesOf}
+use Rattle.lock.specs.Judging.{setOf, masterAtMaximum, unlockLocked, unlockOf, acceptsOf, eraseOf, disableOf, judgeOf}
+use Rattle.lock.specs.declared.Lock.{Lock}
+use Rattle.lock.specs.declared.Lock.the-variants.{Open, Locked, Frozen}
+use Rattle.lock.specs.declared.Security.{Security}
+use Rattle.lock.specs.declared.Secrets.{Secrets}
+use Rattle.lock.specs.declared.Judged.{Judged}
+use Rattle.lock.specs.declared.Purpose.{Purpose}
+use Rattle.lock.specs.declared.Purpose.the-variants.{Set, Unlock, Erase, Disable}
+
+-- at most five attempts, and locked only with security enabled
+pub record Sound (s : Security) : Type 0 where
+  pub few : s .attempts ≤ 5
+  pub sure : isLocked (s .lock) ≡ true → s .enabled ≡ true
+
+clauses : (locked enabled few : Bool) → pick locked (pick enabled few false) few ≡ true → (few ≡ true) × (locked ≡ true → enabled ≡ true)
+clauses true enabled few e = let q = both-true enabled few e in (q .1, λ l. q .0)
+clauses false enabled few e = (e, λ l. absurd (false≢true l))
+
+pub fits-sound : (s : Security) → securityFits s ≡ true → Sound s
+unfolding securityFits
+fits-sound s e =
+    let q = clauses (isLocked (s .lock)) (s .enabled) (leb (s .attempts) 5) e in
+    record { few = leb-true _ _ (q .0); sure = q .1 }
+
+pub sound-fits : (s : Security) → Sound s → securityFits s ≡ true
+unfolding securityFits
+sound-fits s k = go (isLocked (s .lock)) refl
+  where
+    go : (b : Bool) → isLocked (s .lock) ≡ b → securityFits s ≡ true
+    go true h = simp (h, k .sure h, le-leb (s .attempts) 5 (k .few))
+    go false h = simp (h, le-leb (s .attempts) 5 (k .few))
+
+open-sound : (s : Security) → s .attempts ≤ 5 → Sound (openedOf s)
+open-sound s k = record { few = k; sure = λ l. absurd (false≢true l) }
+
+mismatch-sound : (s : Security) → Sound s → Sound (mismatchedOf s)
+unfolding mismatchedOf
+mismatch-sound s k = go (ltb 0 (s .attempts)) refl
+  where
+    go : (b : Bool) → ltb 0 (s .attempts) ≡ b → Sound (mismatchedOf s)
+    go true e = rw e record { few = let h : s .attempts ≤ 5 = k .few in omega arith; sure = k .sure }
+    go false e = rw e k
+
+-- one of two judgements
+pick-sound : (b : Bool) (j k : Judged) → Sound (j .security) → Sound (k .security) → Sound (pick b j k .security)
+pick-sound true j k p q = p
+pick-sound false j k p q = q
+
+set-sound : (s : Security) (x : Secrets) (b : List ℕ) → Sound s → Sound (setOf s x b .security)
+unfolding setOf
+set-sound s x b k = pick-sound (masterPicked b) _ _ k record { few = k .few; sure = λ l. refl }
+
+unlock-sound : (s : Security) (x : Secrets) (b : List ℕ) → Sound s → Sound (unlockOf s x b .security)
+unfolding unlockOf unlockLocked
+unlock-sound s x b k =
+    pick-sound (isLocked (s .lock)) _ _
+    (pick-sound (masterAtMaximum s b) _ _ k (pick-sound (matchesOf x b) _ _ (open-sound s (k .few)) (mismatch-sound s k)))
+    k
+
+erase-sound : (s : Security) (x : Secrets) (b : List ℕ) → Sound s → Sound (eraseOf s x b .security)
+unfolding eraseOf
+erase-sound s x b k =
+    pick-sound (acceptsOf s x b) _ _ record { few = k .few; sure = λ l. absurd (false≢true l) } record { few = k .few; sure = k .sure }
+
+disable-sound : (s : Security) (x : Secrets) (b : List ℕ) → Sound s → Sound (disableOf s x b .security)
+unfolding disableOf
+disable-sound s x b k = pick-sound (acceptsOf s x b) _ _ record { few = k .few; sure = λ l. absurd (false≢true l) } k
+
+-- a password block
+pub judge-sound : (p : Purpose) (s : Security) (x : Secrets) (b : List ℕ) → Sound s → Sound (judgeOf p s x b .security)
+unfolding judgeOf
+judge-sound Set s x b k = set-sound s x b k
+judge-sound Unlock s x b k = unlock-sound s x b k
+judge-sound Erase s x b k = erase-sound s x b k
+judge-sound Disable s x b k = disable-sound s x b k
+
+-- F5h, F3h, and the end of a preparation
+pub freeze-sound : (s : Security) → Sound s → Sound (frozenOf s)
+freeze-sound s k = record { few = k .few; sure = λ l. absurd (false≢true l) }
+
+pub prepare-sound : (s : Security) → Sound s → Sound (preparedOf s)
+prepare-sound s k = record { few = k .few; sure = k .sure }
+
+pub unprepare-sound : (s : Security) → Sound s → Sound (unpreparedOf s)
+unprepare-sound s k = record { few = k .few; sure = k .sure }
+
+-- power-on and hardware reset, whatever was before
+pub power-on-sound : (s : Security) → Sound (poweredOn s)
+unfolding startingLock
+power-on-sound s = record { few = omega arith; sure = go (s .enabled) refl }
+  where
+    go : (b : Bool) → s .enabled ≡ b → isLocked (poweredOn s .lock) ≡ true → s .enabled ≡ true
+    go true e l = e
+    go false e l = absurd (false≢true (rw e at l))
