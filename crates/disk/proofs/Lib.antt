@@ -1,1 +1,2 @@
 pub mod FastPath
+pub mod Clauses

@@ -3,7 +3,7 @@ ghost use mathlib.Core.Path.{_≡_};
 ghost use Prim.Native.Nat.{_<_};
 ghost use Rattle.face.specs.Registers.{startAddress, startRegisters, withError, withFeatures, withCount, withAt, withLow, withHigh, withDeviceHead};
 ghost use Rattle.face.specs.Face.{noSignals, startHot, withRegs, withSignals, withTransfer, withHot, withSettled, withBuffer};
-ghost use Rattle.face.specs.Reads.{isIdle, statusOf, seen, quietOf, readRegister, lineOf};
+ghost use Rattle.face.specs.Reads.{numberOf, isIdle, statusOf, seen, quietOf, readRegister, lineOf};
 ghost use Rattle.face.specs.Writes.{busyOf, storeRegister, putRegister, srstOf, nienOf, heldHot, releasedOf};
 ghost use Rattle.face.specs.Ends.{clearedOf, raisedOf, finishOf, failOf, endedAt};
 ghost use Rattle.face.specs.Resets.{dropPurpose, dropAs, droppedOf, softResetOf, poweredOnFace, controlOf};
@@ -96,6 +96,22 @@ pub struct Seen {
 pub enum Quick {
     Settles(Seen),
     Slow,
+}
+
+impl Answer {
+    // The paper's number.
+    pub fn number(self) -> u8
+        ensures { λ r. ⌜ r ≡ numberOf self ⌝ }
+    {
+        match self {
+            Answer::Done => 0,
+            Answer::NoRegister => 1,
+            Answer::OutOfShape => 2,
+            Answer::WrongLength => 3,
+            Answer::NoTransfer => 4,
+            Answer::SetupRefused => 6,
+        }
+    }
 }
 
 fn start_registers() -> Registers
