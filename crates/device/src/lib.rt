@@ -121,14 +121,8 @@ fn zero_device() -> Device
     let face = zero_face();
     let user = lock::no_password();
     let master = lock::no_password();
-    let secrets = Secrets {
-        user,
-        master,
-    };
-    Device {
-        face,
-        secrets,
-    }
+    let secrets = Secrets { user, master };
+    Device { face, secrets }
 }
 
 // A disk of this geometry, identity and master password, just powered on.
@@ -146,14 +140,8 @@ fn fresh(geometry: Geometry, identity: Identity, master: [u8; 32]) -> Device
     };
     let face = zero_face().with_settled(settled).power_on();
     let user = lock::no_password();
-    let secrets = Secrets {
-        user,
-        master,
-    };
-    Device {
-        face,
-        secrets,
-    }
+    let secrets = Secrets { user, master };
+    Device { face, secrets }
 }
 
 // DEV: Device/Head bit 4.
@@ -232,7 +220,13 @@ impl Device {
     }
 
     // Setup: refused outside the limits, else a disk just powered on.
-    pub fn setup(cylinders: u16, heads: u8, sectors: u8, identity: Identity, master: [u8; 32]) -> Outcome
+    pub fn setup(
+        cylinders: u16,
+        heads: u8,
+        sectors: u8,
+        identity: Identity,
+        master: [u8; 32],
+    ) -> Outcome
         ensures { λ r. ⌜ r ≡ setupOf cylinders heads sectors identity master ⌝ }
     {
         let Checked::Within(geometry) = Geometry::new(cylinders, heads, sectors) else {
@@ -265,10 +259,7 @@ impl Device {
         let face = left.face;
         let secrets = left.secrets;
         let answer = left.answer;
-        let device = Device {
-            face,
-            secrets,
-        };
+        let device = Device { face, secrets };
         device.shows(answer, left.value)
     }
 
