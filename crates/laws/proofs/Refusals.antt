@@ -1,0 +1,153 @@
+-- An answer other than 0 comes with value 0 and changes nothing; setup is refused exactly outside the limits.
+use mathlib.Core.Bool.{Bool, true, false}
+use mathlib.Core.Path.{_≡_, refl, sym, ap, _∙_}
+use mathlib.Core.Logic.{_⊎_, inl, inr}
+use mathlib.Core.List.{List}
+use Prim.Native.Nat.{ℕ}
+use lib.Dec.{eqb, ltb}
+use lib.ListN.{length}
+use Rattle.base.specs.Choice.{pick, within}
+use Rattle.geometry.specs.Geometry.{geometryFits, geometryOf, checkedOf}
+use Rattle.geometry.proofs.Limits.{Limits, fits-limits, limits-fit}
+use Rattle.lock.specs.declared.Secrets.{Secrets}
+use Rattle.settled.specs.Identity.{identityFits}
+use Rattle.settled.specs.declared.Identity.{Identity}
+use Rattle.face.specs.Face.{withHot}
+use Rattle.face.specs.Reads.{seen, readRegister}
+use Rattle.face.specs.declared.Hot.{Hot}
+use Rattle.face.specs.declared.Face.{Face}
+use Rattle.face.specs.declared.Seen.{Seen}
+use Rattle.face.specs.declared.Transfer.{Transfer}
+use Rattle.face.specs.declared.Transfer.the-variants.{Idle, Reading, Writing, ReadingBuffer, WritingBuffer, TakingPassword}
+use Rattle.face.specs.declared.Answer.{Answer}
+use Rattle.face.specs.declared.Answer.the-variants.{Done, NoRegister}
+use Rattle.face.specs.declared.Action.{Action}
+use Rattle.face.specs.declared.Action.the-variants.{ReadRegister, WriteRegister, ReadWord, WriteWord, HardwareReset, PowerOn, Line}
+use Rattle.transfers.specs.Words.{told, noTransfer, readWordAs, readWordOf}
+use Rattle.transfers.specs.declared.Told.{Told}
+use Rattle.disk.specs.Passwords.{passwordLast, passwordWord}
+use Rattle.disk.specs.Actions.{Effect, wordRefused, writeRegisterOf, writeWordAs, writeWordOf, actOf}
+use Rattle.disk.specs.declared.Acted.{Acted}
+use Rattle.device.specs.Alone.{Step, deviceOf, outcome, ignoredOf, actedOf, aloneOf}
+use Rattle.device.specs.Host.{shapedOf, memoryLength, stepOf}
+use Rattle.device.specs.Setup.{freshOf, setupRefused, setupOf}
+use Rattle.device.specs.declared.Device.{Device}
+
+-- value 0, the same device, the same sectors
+pub record Unchanged (d : Device) (m : List ℕ) (s : Step) : Type 0 where
+  pub value : s .outcome .value ≡ 0
+  pub device : s .outcome .device ≡ d
+  pub sectors : s .sectors ≡ m
+
+read-answer : (h : Hot) (n : ℕ) → (readRegister h n .answer ≡ Done) ⊎ (readRegister h n ≡ seen h NoRegister 0)
+unfolding readRegister
+read-answer h n =
+    go (eqb n 1) _ _ (inl refl) (go (eqb n 2) _ _ (inl refl) (go (eqb n 3) _ _ (inl refl) (go (eqb n 4) _ _ (inl refl)
+    (go (eqb n 5) _ _ (inl refl) (go (eqb n 6) _ _ (inl refl) (go (eqb n 7) _ _ (inl refl) (go (eqb n 8) _ _ (inl refl) (inr refl))))))))
+  where
+    go : (b : Bool) (x y : Seen) → (x .answer ≡ Done) ⊎ (x ≡ seen h NoRegister 0) → (y .answer ≡ Done) ⊎ (y ≡ seen h NoRegister 0)
+        → (pick b x y .answer ≡ Done) ⊎ (pick b x y ≡ seen h NoRegister 0)
+    go true x y p q = p
+    go false x y p q = q
+
+write-answer : (f : Face) (m : List ℕ) (n v : ℕ) → (writeRegisterOf f m n v .answer ≡ Done) ⊎ (writeRegisterOf f m n v ≡ told f NoRegister 0)
+unfolding writeRegisterOf
+write-answer f m n v = go (within 1 6 n) _ _ (inl refl) (go (eqb n 7) _ _ (inl refl) (go (eqb n 8) _ _ (inl refl) (inr refl)))
+  where
+    go : (b : Bool) (x y : Told) → (x .answer ≡ Done) ⊎ (x ≡ told f NoRegister 0) → (y .answer ≡ Done) ⊎ (y ≡ told f NoRegister 0)
+        → (pick b x y .answer ≡ Done) ⊎ (pick b x y ≡ told f NoRegister 0)
+    go true x y p q = p
+    go false x y p q = q
+
+read-word-answer : (f : Face) (m : List ℕ) (t : Transfer) → (readWordAs f m t .answer ≡ Done) ⊎ (readWordAs f m t ≡ noTransfer f)
+read-word-answer f m Idle = inr refl
+read-word-answer f m (Reading r) = inl refl
+read-word-answer f m (Writing r) = inr refl
+read-word-answer f m (ReadingBuffer n) = inl refl
+read-word-answer f m (WritingBuffer n) = inr refl
+read-word-answer f m (TakingPassword b) = inr refl
+
+pick-done : (b : Bool) (x y : Acted) → x .answer ≡ Done → y .answer ≡ Done → pick b x y .answer ≡ Done
+pick-done true x y p q = p
+pick-done false x y p q = q
+
+write-word-answer : (f : Face) (x : Secrets) (m : List ℕ) (w : ℕ) (t : Transfer) → (writeWordAs f x m w t .acted .answer ≡ Done) ⊎ (writeWordAs f x m w t ≡ wordRefused f x m)
+unfolding passwordWord passwordLast
+write-word-answer f x m w Idle = inr refl
+write-word-answer f x m w (Reading r) = inr refl
+write-word-answer f x m w (Writing r) = inl refl
+write-word-answer f x m w (ReadingBuffer n) = inr refl
+write-word-answer f x m w (WritingBuffer n) = inl refl
+write-word-answer f x m w (TakingPassword b) = inl (pick-done (ltb (b .word) 255) _ _ refl refl)
+
+-- an action on a disk, seen from the device
+abbrev Honest : Device → List ℕ → Step → Type 0
+Honest d m s = (s .outcome .answer ≡ Done) ⊎ Unchanged d m s
+
+act-honest : (d : Device) (m : List ℕ) (a : Action) → Honest d m (actedOf d m a)
+unfolding actOf readWordOf writeWordOf
+act-honest d m (ReadRegister n) = go (read-answer (d .face .hot) n)
+  where
+    go : (readRegister (d .face .hot) n .answer ≡ Done) ⊎ (readRegister (d .face .hot) n ≡ seen (d .face .hot) NoRegister 0) → Honest d m (actedOf d m (ReadRegister n))
+    go (inl e) = inl e
+    go (inr e) =
+        inr record { value = ap (λ (s : Seen). s .value) e; device = ap (λ (s : Seen). deviceOf (withHot (d .face) (s .hot)) (d .secrets)) e; sectors = refl }
+act-honest d m (WriteRegister n v) = go (write-answer (d .face) m n v)
+  where
+    go : (writeRegisterOf (d .face) m n v .answer ≡ Done) ⊎ (writeRegisterOf (d .face) m n v ≡ told (d .face) NoRegister 0) → Honest d m (actedOf d m (WriteRegister n v))
+    go (inl e) = inl e
+    go (inr e) = inr record { value = ap (λ (s : Told). s .value) e; device = ap (λ (s : Told). deviceOf (s .face) (d .secrets)) e; sectors = refl }
+act-honest d m ReadWord = go (read-word-answer (d .face) m (d .face .hot .transfer))
+  where
+    go : (readWordAs (d .face) m (d .face .hot .transfer) .answer ≡ Done) ⊎ (readWordAs (d .face) m (d .face .hot .transfer) ≡ noTransfer (d .face)) → Honest d m (actedOf d m ReadWord)
+    go (inl e) = inl e
+    go (inr e) = inr record { value = ap (λ (s : Told). s .value) e; device = ap (λ (s : Told). deviceOf (s .face) (d .secrets)) e; sectors = refl }
+act-honest d m (WriteWord w) = go (write-word-answer (d .face) (d .secrets) m w (d .face .hot .transfer))
+  where
+    go : (writeWordAs (d .face) (d .secrets) m w (d .face .hot .transfer) .acted .answer ≡ Done) ⊎ (writeWordAs (d .face) (d .secrets) m w (d .face .hot .transfer) ≡ wordRefused (d .face) (d .secrets) m)
+        → Honest d m (actedOf d m (WriteWord w))
+    go (inl e) = inl e
+    go (inr e) =
+        inr record {
+          value = ap (λ (s : Effect). s .acted .value) e;
+          device = ap (λ (s : Effect). deviceOf (s .acted .face) (s .acted .secrets)) e;
+          sectors = ap (λ (s : Effect). s .sectors) e;
+        }
+act-honest d m HardwareReset = inl refl
+act-honest d m PowerOn = inl refl
+act-honest d m Line = inl refl
+
+-- every call of the host answers 0, or gives 0 and changes nothing
+pub step-honest : (d : Device) (m : List ℕ) (a : Action) → (stepOf d m a .outcome .answer ≡ Done) ⊎ Unchanged d m (stepOf d m a)
+unfolding stepOf aloneOf
+step-honest d m a =
+    go (shapedOf d) _ _ (go (eqb (length m) (memoryLength d)) _ _ (go (ignoredOf (d .face .hot) a) _ _ (inl refl) (act-honest d m a)) still) still
+  where
+    still : {x : Answer} → Honest d m (record { outcome = outcome d x 0; sectors = m })
+    still = inr record { value = refl; device = refl; sectors = refl }
+    go : (b : Bool) (s t : Step) → Honest d m s → Honest d m t → Honest d m (pick b s t)
+    go true s t p q = p
+    go false s t p q = q
+
+-- setup makes just the disk asked for, where counts and identity are within the limits
+pub setup-within : (c h s : ℕ) (i : Identity) (p : List ℕ) → Limits c h s → identityFits i ≡ true → setupOf c h s i p ≡ outcome (freshOf (geometryOf c h s) i p) Done 0
+unfolding setupOf checkedOf
+setup-within c h s i p l e = simp (limits-fit (geometryOf c h s) l, e)
+
+-- and is refused where the counts are not
+pub setup-outside : (c h s : ℕ) (i : Identity) (p : List ℕ) → (Limits c h s → ⊥) → setupOf c h s i p ≡ setupRefused
+unfolding setupOf checkedOf
+setup-outside c h s i p l = go (geometryFits (geometryOf c h s)) refl
+  where
+    go : (b : Bool) → geometryFits (geometryOf c h s) ≡ b → setupOf c h s i p ≡ setupRefused
+    go true e = absurd (l (fits-limits (geometryOf c h s) e))
+    go false e = simp e
+
+-- or the identity is not
+pub setup-unprintable : (c h s : ℕ) (i : Identity) (p : List ℕ) → identityFits i ≡ false → setupOf c h s i p ≡ setupRefused
+unfolding setupOf checkedOf
+setup-unprintable c h s i p e = go (geometryFits (geometryOf c h s)) refl
+  where
+    go : (b : Bool) → geometryFits (geometryOf c h s) ≡ b → setupOf c h s i p ≡ setupRefused
+    go true k = simp (k, e)
+    go false k = simp k

@@ -1,0 +1,445 @@
+-- Every action keeps the disk in shape: each command opens only a transfer that its stations allow, and each word goes on with one or ends it.
+use mathlib.Core.Bool.{Bool, true, false, not}
+use mathlib.Core.Path.{_≡_, refl, sym, ap, _∙_}
+use mathlib.Core.List.{List}
+use Prim.Native.Nat.{ℕ, zero, suc, _-_}
+use lib.Dec.{eqb, ltb}
+use Rattle.base.specs.Choice.{pick, within}
+use Rattle.base.proofs.Tests.{false≢true, both-true}
+use Rattle.geometry.specs.Geometry.{geometryFits}
+use Rattle.geometry.specs.Translation.{factoryOf, initializedOf, translationAllowed}
+use Rattle.geometry.specs.declared.Translation.{Translation}
+use Rattle.geometry.specs.declared.Initialized.{Initialized}
+use Rattle.geometry.specs.declared.Initialized.the-variants.{To, Aborted}
+use Rattle.geometry.proofs.Translations.{made-allowed, factory-allowed}
+use Rattle.address.specs.Successor.{successorOf}
+use Rattle.address.specs.declared.AddressRegisters.{AddressRegisters}
+use Rattle.address.specs.declared.Address.{Address}
+use Rattle.address.specs.declared.Address.the-variants.{Names, Faults}
+use Rattle.lock.specs.Lock.{isOpen, isLocked, isFrozen, exhaustedOf, cannotErase, poweredOn, securityFits}
+use Rattle.lock.specs.Judging.{judgeOf}
+use Rattle.lock.specs.declared.Lock.{Lock}
+use Rattle.lock.specs.declared.Lock.the-variants.{Open, Locked, Frozen}
+use Rattle.lock.specs.declared.Security.{Security}
+use Rattle.lock.specs.declared.Secrets.{Secrets}
+use Rattle.lock.specs.declared.Judged.{Judged}
+use Rattle.lock.specs.declared.Purpose.{Purpose}
+use Rattle.lock.specs.declared.Purpose.the-variants.{Set, Unlock, Erase, Disable}
+use Rattle.lock.specs.declared.Verdict.{Verdict}
+use Rattle.lock.specs.declared.Verdict.the-variants.{EndsWell, Aborts, Erases}
+use Rattle.lock.proofs.Sound.{fits-sound, sound-fits, judge-sound, freeze-sound, prepare-sound, unprepare-sound, power-on-sound}
+use Rattle.codes.specs.Commands.{decodeOf}
+use Rattle.codes.specs.MayRun.{notLocked, notFrozen, runsIn, mayRunOf, barredOf}
+use Rattle.codes.specs.declared.Command.{Command}
+use Rattle.codes.specs.declared.Command.the-variants.{Unknown, Recalibrate, ReadSectors, WriteSectors, VerifySectors, Seek, ExecuteDiagnostic, InitializeParameters, ReadBuffer, WriteBuffer, IdentifyDevice, SecuritySetPassword, SecurityUnlock, SecurityErasePrepare, SecurityEraseUnit, SecurityFreezeLock, SecurityDisablePassword}
+use Rattle.settled.specs.Identity.{identityFits}
+use Rattle.settled.specs.Settled.{withTranslation, withSecurity, settledFits, settledPoweredOn, settledReset}
+use Rattle.settled.specs.declared.Settled.{Settled}
+use Rattle.settled.proofs.Clauses.{settled-clauses, clauses-settled}
+use Rattle.face.specs.Face.{withHot, withSettled, withBuffer, withTransfer}
+use Rattle.face.specs.Reads.{isIdle, readRegister}
+use Rattle.face.specs.Writes.{busyOf, storeRegister, putRegister, srstOf, nienOf}
+use Rattle.face.specs.Resets.{dropPurpose, dropAs, droppedOf, poweredOnFace, softResetOf, controlOf}
+use Rattle.face.specs.declared.Run.{Run}
+use Rattle.face.specs.declared.Signals.{Signals}
+use Rattle.face.specs.declared.PasswordBlock.{PasswordBlock}
+use Rattle.face.specs.declared.Transfer.{Transfer}
+use Rattle.face.specs.declared.Transfer.the-variants.{Idle, Reading, Writing, ReadingBuffer, WritingBuffer, TakingPassword}
+use Rattle.face.specs.declared.Hot.{Hot}
+use Rattle.face.specs.declared.Face.{Face}
+use Rattle.face.specs.declared.Action.{Action}
+use Rattle.face.specs.declared.Action.the-variants.{ReadRegister, WriteRegister, ReadWord, WriteWord, HardwareReset, PowerOn, Line}
+use Rattle.transfers.specs.Sectors.{located, firstRun, nextRun, notFoundOf, readAs, readAt, readSectorsOf, writeAs, writeAt, writeSectorsOf, verifyAs, verifyLast, verifyFrom, verifySectorsOf}
+use Rattle.transfers.specs.Words.{readNextOf, readRunOf, readBufferWord, readWordAs, readWordOf, wordIn, wantAs, wantAt, writeNextOf, writeLastAs, writeLastOf, writeRunOf, writeBufferWord}
+use Rattle.commands.specs.Others.{seekAs, seekOf, recalibrateOf, initializeAs, initializeParametersOf, diagnosticOf, identifyDeviceOf, readBufferOf, writeBufferOf, takePasswordOf, erasePrepareOf, freezeLockOf}
+use Rattle.commands.specs.Gate.{begunOf, abortAtOnce, runOf, stationsOf, commandOf}
+use Rattle.disk.specs.Shape.{isNamed, runFits, purposeFits, passwordFits, transferFits, heldFits, diskFits}
+use Rattle.transfers.specs.declared.Told.{Told}
+use Rattle.face.specs.declared.Seen.{Seen}
+use Rattle.disk.specs.declared.Acted.{Acted}
+use Rattle.disk.specs.Passwords.{passwordEnded, endedAs, judgementOf, judgedActed, passwordLast, passwordWord}
+use Rattle.disk.proofs.Clauses.{Fits, shape-clauses, clauses-shape}
+use Rattle.disk.specs.Actions.{writeRegisterOf, writeWordAs, writeWordOf, actOf}
+
+-- with other security settings, themselves in shape
+security-kept : (s : Settled) (x : Security) → settledFits s ≡ true → securityFits x ≡ true → settledFits (withSecurity s x) ≡ true
+security-kept s x e h =
+    let k = settled-clauses s e in
+    clauses-settled (withSecurity s x) record { geometry = k .geometry; identity = k .identity; translation = k .translation; security = h }
+
+-- with another translation that 91h allows
+translation-kept : (s : Settled) (t : Translation) → settledFits s ≡ true → translationAllowed (s .geometry) t ≡ true → settledFits (withTranslation s t) ≡ true
+translation-kept s t e h =
+    let k = settled-clauses s e in
+    clauses-settled (withTranslation s t) record { geometry = k .geometry; identity = k .identity; translation = h; security = k .security }
+
+-- the disk in shape, and no reset held
+pub record Free (f : Face) : Type 0 where
+  pub sound : settledFits (f .settled) ≡ true
+  pub free : f .hot .signals .held ≡ false
+  pub fits : transferFits (f .settled) (f .hot .transfer) ≡ true
+
+free-fits : (f : Face) → Free f → Fits f
+unfolding heldFits
+free-fits f k = record { sound = k .sound; held = rw (k .free); fits = k .fits }
+
+-- a choice hands each side its test
+pick-free : (b : Bool) (f g : Face) → (b ≡ true → Free f) → (b ≡ false → Free g) → Free (pick b f g)
+pick-free true f g p q = p refl
+pick-free false f g p q = q refl
+
+pick-fits : (b : Bool) (f g : Face) → (b ≡ true → Fits f) → (b ≡ false → Fits g) → Fits (pick b f g)
+pick-fits true f g p q = p refl
+pick-fits false f g p q = q refl
+
+-- ---- sectors reached
+
+not-found-free : (f : Face) (r : Run) → settledFits (f .settled) ≡ true → f .hot .signals .held ≡ false → Free (notFoundOf f r)
+unfolding notFoundOf
+not-found-free f r s h = record { sound = s; free = h; fits = refl }
+
+run-fits : (s : Settled) (r : Run) (x : Address) → located s (r .at) ≡ x → isNamed x ≡ true → isLocked (s .security .lock) ≡ false → runFits s r ≡ true
+unfolding runFits
+run-fits s r x e n l = rw l (ap isNamed e ∙ n)
+
+read-at-free : (f : Face) (m : List ℕ) (r : Run) → settledFits (f .settled) ≡ true → f .hot .signals .held ≡ false → isLocked (f .settled .security .lock) ≡ false → Free (readAt f m r)
+unfolding readAt
+read-at-free f m r s h l = go (located (f .settled) (r .at)) refl
+  where
+    go : (a : Address) → located (f .settled) (r .at) ≡ a → Free (readAs f m r a)
+    go (Names x) e = record { sound = s; free = h; fits = run-fits (f .settled) r (Names x) e refl l }
+    go Faults e = not-found-free f r s h
+
+write-at-free : (f : Face) (r : Run) → settledFits (f .settled) ≡ true → f .hot .signals .held ≡ false → isLocked (f .settled .security .lock) ≡ false → Free (writeAt f r)
+unfolding writeAt
+write-at-free f r s h l = go (located (f .settled) (r .at)) refl
+  where
+    go : (a : Address) → located (f .settled) (r .at) ≡ a → Free (writeAs f r a)
+    go (Names x) e = record { sound = s; free = h; fits = run-fits (f .settled) r (Names x) e refl l }
+    go Faults e = not-found-free f r s h
+
+want-at-free : (f : Face) (r : Run) → settledFits (f .settled) ≡ true → f .hot .signals .held ≡ false → isLocked (f .settled .security .lock) ≡ false → Free (wantAt f r)
+unfolding wantAt
+want-at-free f r s h l = go (located (f .settled) (r .at)) refl
+  where
+    go : (a : Address) → located (f .settled) (r .at) ≡ a → Free (wantAs f r a)
+    go (Names x) e = record { sound = s; free = h; fits = run-fits (f .settled) r (Names x) e refl l }
+    go Faults e = not-found-free f r s h
+
+verify-as-free : (f : Face) (r : Run) (rest : Face) (a : Address) → settledFits (f .settled) ≡ true → f .hot .signals .held ≡ false → Free rest → Free (verifyAs f r rest a)
+verify-as-free f r rest (Names x) s h k = k
+verify-as-free f r rest Faults s h k = not-found-free f r s h
+
+verify-free : (f : Face) (n : ℕ) (at : AddressRegisters) → settledFits (f .settled) ≡ true → f .hot .signals .held ≡ false → Free (verifyFrom f n at)
+unfolding verifyFrom verifyLast
+verify-free f zero at s h = verify-as-free f _ _ (located (f .settled) at) s h record { sound = s; free = h; fits = refl }
+verify-free f (suc k) at s h = verify-as-free f _ _ (located (f .settled) at) s h (verify-free f k (successorOf (f .settled .translation) at) s h)
+
+-- ---- commands
+
+seek-free : (f : Face) (a : Address) → settledFits (f .settled) ≡ true → f .hot .signals .held ≡ false → Free (seekAs f a)
+seek-free f (Names x) s h = record { sound = s; free = h; fits = refl }
+seek-free f Faults s h = record { sound = s; free = h; fits = refl }
+
+initialize-free : (f : Face) (i : Initialized) → initializedOf (f .settled .geometry) (f .hot .regs .count) (f .hot .regs .at .head) ≡ i
+    → settledFits (f .settled) ≡ true → f .hot .signals .held ≡ false → Free (initializeAs f i)
+initialize-free f (To t) e s h =
+    record { sound = translation-kept (f .settled) t s (made-allowed (f .settled .geometry) (f .hot .regs .count) (f .hot .regs .at .head) t e); free = h; fits = refl }
+initialize-free f Aborted e s h = record { sound = s; free = h; fits = refl }
+
+-- what the stations told of a lock state
+not-locked-open : (l : Lock) → notLocked l ≡ true → isLocked l ≡ false
+not-locked-open Open e = refl
+not-locked-open Locked e = absurd (false≢true e)
+not-locked-open Frozen e = refl
+
+not-frozen-not : (l : Lock) → notFrozen l ≡ true → isFrozen l ≡ false
+not-frozen-not Open e = refl
+not-frozen-not Locked e = refl
+not-frozen-not Frozen e = absurd (false≢true e)
+
+open-not-frozen : (l : Lock) → isOpen l ≡ true → isFrozen l ≡ false
+open-not-frozen Open e = refl
+open-not-frozen Locked e = absurd (false≢true e)
+open-not-frozen Frozen e = absurd (false≢true e)
+
+password-free : (f : Face) (p : Purpose) → settledFits (f .settled) ≡ true → f .hot .signals .held ≡ false
+    → isFrozen (f .settled .security .lock) ≡ false → purposeFits (f .settled .security) p ≡ true → Free (takePasswordOf f p)
+unfolding takePasswordOf passwordFits
+password-free f p s h z e = record { sound = s; free = h; fits = rw z e }
+
+pub command-free : (f : Face) (m : List ℕ) (k : Command) → settledFits (f .settled) ≡ true → f .hot .signals .held ≡ false
+    → runsIn k (f .settled .security .lock) ≡ true → barredOf k (f .settled .security) ≡ false → Free (runOf f m k)
+unfolding readSectorsOf writeSectorsOf verifySectorsOf seekOf recalibrateOf initializeParametersOf diagnosticOf identifyDeviceOf readBufferOf writeBufferOf erasePrepareOf freezeLockOf
+command-free f m Unknown s h r b = record { sound = s; free = h; fits = refl }
+command-free f m Recalibrate s h r b = record { sound = s; free = h; fits = refl }
+command-free f m ReadSectors s h r b = read-at-free f m _ s h (not-locked-open (f .settled .security .lock) r)
+command-free f m WriteSectors s h r b = write-at-free f _ s h (not-locked-open (f .settled .security .lock) r)
+command-free f m VerifySectors s h r b = verify-free f _ _ s h
+command-free f m Seek s h r b = seek-free f (located (f .settled) (f .hot .regs .at)) s h
+command-free f m ExecuteDiagnostic s h r b = record { sound = s; free = h; fits = refl }
+command-free f m InitializeParameters s h r b = initialize-free f _ refl s h
+command-free f m ReadBuffer s h r b = record { sound = s; free = h; fits = refl }
+command-free f m WriteBuffer s h r b = record { sound = s; free = h; fits = refl }
+command-free f m IdentifyDevice s h r b = record { sound = s; free = h; fits = refl }
+command-free f m SecuritySetPassword s h r b = password-free f Set s h (open-not-frozen (f .settled .security .lock) r) r
+command-free f m SecurityUnlock s h r b = password-free f Unlock s h (not-frozen-not (f .settled .security .lock) r) (ap not b)
+command-free f m SecurityErasePrepare s h r b =
+    record { sound = security-kept (f .settled) _ s (sound-fits _ (prepare-sound _ (fits-sound _ (settled-clauses (f .settled) s .security)))); free = h; fits = refl }
+command-free f m SecurityEraseUnit s h r b = password-free f Erase s h (not-frozen-not (f .settled .security .lock) r) (ap not b)
+command-free f m SecurityFreezeLock s h r b =
+    record { sound = security-kept (f .settled) _ s (sound-fits _ (freeze-sound _ (fits-sound _ (settled-clauses (f .settled) s .security)))); free = h; fits = refl }
+command-free f m SecurityDisablePassword s h r b = password-free f Disable s h (open-not-frozen (f .settled .security .lock) r) r
+
+-- ---- the stations
+
+unprepared-kept : (s : Settled) → settledFits s ≡ true → settledFits (withSecurity s (record { lock = s .security .lock; enabled = s .security .enabled; maximum = s .security .maximum; attempts = s .security .attempts; prepared = false })) ≡ true
+unprepared-kept s e = security-kept s _ e (sound-fits _ (unprepare-sound _ (fits-sound _ (settled-clauses s e .security))))
+
+abort-free : (f : Face) (code : ℕ) → settledFits (f .settled) ≡ true → f .hot .signals .held ≡ false → Free (abortAtOnce f code)
+unfolding abortAtOnce
+abort-free f code s h =
+    pick-free (eqb code 0xF4) _ _ (λ e. record { sound = unprepared-kept (f .settled) s; free = h; fits = refl })
+    (λ e. record { sound = s; free = h; fits = refl })
+
+stations-free : (f : Face) (m : List ℕ) (code : ℕ) → settledFits (f .settled) ≡ true → f .hot .signals .held ≡ false → Free (stationsOf f m code)
+unfolding stationsOf mayRunOf
+stations-free f m code s h =
+    pick-free (runsIn (decodeOf code) (f .settled .security .lock)) _ _
+    (λ r. pick-free (barredOf (decodeOf code) (f .settled .security)) _ _ (λ b. abort-free f code s h) (λ b. command-free f m (decodeOf code) s h r b))
+    (λ r. abort-free f code s h)
+
+drop-purpose-sound : (f : Face) (p : Purpose) → settledFits (f .settled) ≡ true → settledFits (dropPurpose f p .settled) ≡ true
+drop-purpose-sound f Set s = s
+drop-purpose-sound f Unlock s = s
+drop-purpose-sound f Erase s = unprepared-kept (f .settled) s
+drop-purpose-sound f Disable s = s
+
+drop-sound : (f : Face) (t : Transfer) → settledFits (f .settled) ≡ true → settledFits (dropAs f t .settled) ≡ true
+drop-sound f Idle s = s
+drop-sound f (Reading r) s = s
+drop-sound f (Writing r) s = s
+drop-sound f (ReadingBuffer n) s = s
+drop-sound f (WritingBuffer n) s = s
+drop-sound f (TakingPassword b) s = drop-purpose-sound _ (b .purpose) s
+
+drop-purpose-signals : (f : Face) (p : Purpose) → dropPurpose f p .hot .signals ≡ f .hot .signals
+drop-purpose-signals f Set = refl
+drop-purpose-signals f Unlock = refl
+drop-purpose-signals f Erase = refl
+drop-purpose-signals f Disable = refl
+
+drop-signals : (f : Face) (t : Transfer) → dropAs f t .hot .signals ≡ f .hot .signals
+drop-signals f Idle = refl
+drop-signals f (Reading r) = refl
+drop-signals f (Writing r) = refl
+drop-signals f (ReadingBuffer n) = refl
+drop-signals f (WritingBuffer n) = refl
+drop-signals f (TakingPassword b) = drop-purpose-signals _ (b .purpose)
+
+begun-free : (f : Face) (m : List ℕ) (code : ℕ) → Fits f → f .hot .signals .held ≡ false → Free (stationsOf (begunOf f) m code)
+unfolding begunOf droppedOf
+begun-free f m code k h =
+    stations-free (begunOf f) m code (drop-sound f (f .hot .transfer) (k .sound)) (ap (λ (s : Signals). s .held) (drop-signals f (f .hot .transfer)) ∙ h)
+
+command-fits : (f : Face) (m : List ℕ) (code : ℕ) → Fits f → Fits (commandOf f m code)
+unfolding commandOf
+command-fits f m code k = pick-fits (f .hot .signals .held) _ _ (λ h. k) (λ h. free-fits _ (begun-free f m code k h))
+
+-- a command leaves a reset that is not held so
+pub command-held : (f : Face) (m : List ℕ) (code : ℕ) → Fits f → f .hot .signals .held ≡ false → commandOf f m code .hot .signals .held ≡ false
+unfolding commandOf
+command-held f m code k h = go (f .hot .signals .held) h
+  where
+    go : (b : Bool) → b ≡ false → pick b f (stationsOf (begunOf f) m code) .hot .signals .held ≡ false
+    go true e = absurd (false≢true (sym e))
+    go false e = begun-free f m code k h .free
+
+-- ---- words
+
+held-open : (held idle : Bool) → pick held idle true ≡ true → idle ≡ false → held ≡ false
+held-open true idle p q = absurd (false≢true (sym q ∙ p))
+held-open false idle p q = refl
+
+-- no reset is held while a transfer is open
+open-free : (f : Face) → Fits f → isIdle (f .hot .transfer) ≡ false → f .hot .signals .held ≡ false
+unfolding heldFits
+open-free f k o = held-open (f .hot .signals .held) (isIdle (f .hot .transfer)) (k .held) o
+
+guard : (b x : Bool) → pick b false x ≡ true → (b ≡ false) × (x ≡ true)
+guard true x e = absurd (false≢true e)
+guard false x e = (refl, e)
+
+-- a sector transfer in shape is not locked
+run-unlocked : (s : Settled) (r : Run) → runFits s r ≡ true → isLocked (s .security .lock) ≡ false
+unfolding runFits
+run-unlocked s r e = guard (isLocked (s .security .lock)) (isNamed (located s (r .at))) e .0
+
+read-run-free : (f : Face) (m : List ℕ) (r : Run) → settledFits (f .settled) ≡ true → f .hot .signals .held ≡ false → runFits (f .settled) r ≡ true → Free (readRunOf f m r)
+unfolding readRunOf readNextOf runFits
+read-run-free f m r s h e =
+    pick-free (ltb (r .word) 255) _ _ (λ q. record { sound = s; free = h; fits = e })
+    (λ q. pick-free (ltb 0 (r .after)) _ _ (λ z. read-at-free f m _ s h (run-unlocked (f .settled) r e)) (λ z. record { sound = s; free = h; fits = refl }))
+
+read-buffer-free : (f : Face) (n : ℕ) → settledFits (f .settled) ≡ true → f .hot .signals .held ≡ false → Free (readBufferWord f n)
+unfolding readBufferWord
+read-buffer-free f n s h = pick-free (ltb n 255) _ _ (λ q. record { sound = s; free = h; fits = refl }) (λ q. record { sound = s; free = h; fits = refl })
+
+-- what the open transfer's clause says
+transfer-clause : (f : Face) (t : Transfer) → Fits f → f .hot .transfer ≡ t → transferFits (f .settled) t ≡ true
+transfer-clause f t k e = sym (ap (transferFits (f .settled)) e) ∙ k .fits
+
+read-word-fits : (f : Face) (m : List ℕ) (t : Transfer) → f .hot .transfer ≡ t → Fits f → Fits (readWordAs f m t .face)
+read-word-fits f m Idle e k = k
+read-word-fits f m (Reading r) e k = free-fits _ (read-run-free f m r (k .sound) (open-free f k (ap isIdle e)) (transfer-clause f (Reading r) k e))
+read-word-fits f m (Writing r) e k = k
+read-word-fits f m (ReadingBuffer n) e k = free-fits _ (read-buffer-free f n (k .sound) (open-free f k (ap isIdle e)))
+read-word-fits f m (WritingBuffer n) e k = k
+read-word-fits f m (TakingPassword b) e k = k
+
+write-next-free : (f : Face) (r : Run) → settledFits (f .settled) ≡ true → f .hot .signals .held ≡ false → isLocked (f .settled .security .lock) ≡ false → Free (writeNextOf f r)
+unfolding writeNextOf
+write-next-free f r s h l = pick-free (ltb 0 (r .after)) _ _ (λ q. want-at-free f _ s h l) (λ q. record { sound = s; free = h; fits = refl })
+
+write-last-free : (f : Face) (r : Run) (a : Address) → settledFits (f .settled) ≡ true → f .hot .signals .held ≡ false → isLocked (f .settled .security .lock) ≡ false → Free (writeLastAs f r a)
+write-last-free f r (Names x) s h l = write-next-free f r s h l
+write-last-free f r Faults s h l = not-found-free f r s h
+
+write-run-free : (f : Face) (r : Run) (w : ℕ) → settledFits (f .settled) ≡ true → f .hot .signals .held ≡ false → runFits (f .settled) r ≡ true → Free (writeRunOf f r w)
+unfolding writeRunOf writeLastOf runFits
+write-run-free f r w s h e =
+    pick-free (ltb (r .word) 255) _ _ (λ q. record { sound = s; free = h; fits = e })
+    (λ q. write-last-free (wordIn f (r .word) w) r (located (f .settled) (r .at)) s h (run-unlocked (f .settled) r e))
+
+write-buffer-free : (f : Face) (n w : ℕ) → settledFits (f .settled) ≡ true → f .hot .signals .held ≡ false → Free (writeBufferWord f n w)
+unfolding writeBufferWord
+write-buffer-free f n w s h = pick-free (ltb n 255) _ _ (λ q. record { sound = s; free = h; fits = refl }) (λ q. record { sound = s; free = h; fits = refl })
+
+ended-free : (f : Face) (v : Verdict) → settledFits (f .settled) ≡ true → f .hot .signals .held ≡ false → Free (endedAs f v)
+ended-free f EndsWell s h = record { sound = s; free = h; fits = refl }
+ended-free f Aborts s h = record { sound = s; free = h; fits = refl }
+ended-free f Erases s h = record { sound = s; free = h; fits = refl }
+
+password-last-free : (f : Face) (x : Secrets) (p : Purpose) → settledFits (f .settled) ≡ true → f .hot .signals .held ≡ false → Free (passwordLast f x p .face)
+unfolding passwordLast
+password-last-free f x p s h =
+    let k = fits-sound _ (settled-clauses (f .settled) s .security) in
+    ended-free (passwordEnded f (judgementOf f x p .security)) (judgementOf f x p .verdict)
+    (security-kept (f .settled) _ s (sound-fits _ (judge-sound p (f .settled .security) x (f .buffer) k))) h
+
+pick-acted : (b : Bool) (x y : Acted) → (b ≡ true → Free (x .face)) → (b ≡ false → Free (y .face)) → Free (pick b x y .face)
+pick-acted true x y p q = p refl
+pick-acted false x y p q = q refl
+
+password-word-free : (f : Face) (x : Secrets) (b : PasswordBlock) (w : ℕ) → settledFits (f .settled) ≡ true → f .hot .signals .held ≡ false
+    → passwordFits (f .settled .security) (b .purpose) ≡ true → Free (passwordWord f x b w .face)
+unfolding passwordWord
+password-word-free f x b w s h e =
+    pick-acted (ltb (b .word) 255) _ _ (λ q. record { sound = s; free = h; fits = e })
+    (λ q. password-last-free (wordIn f (b .word) w) x (b .purpose) s h)
+
+write-word-fits : (f : Face) (x : Secrets) (m : List ℕ) (w : ℕ) (t : Transfer) → f .hot .transfer ≡ t → Fits f → Fits (writeWordAs f x m w t .acted .face)
+write-word-fits f x m w Idle e k = k
+write-word-fits f x m w (Reading r) e k = k
+write-word-fits f x m w (Writing r) e k = free-fits _ (write-run-free f r w (k .sound) (open-free f k (ap isIdle e)) (transfer-clause f (Writing r) k e))
+write-word-fits f x m w (ReadingBuffer n) e k = k
+write-word-fits f x m w (WritingBuffer n) e k = free-fits _ (write-buffer-free f n w (k .sound) (open-free f k (ap isIdle e)))
+write-word-fits f x m w (TakingPassword b) e k = free-fits _ (password-word-free f x b w (k .sound) (open-free f k (ap isIdle e)) (transfer-clause f (TakingPassword b) k e))
+
+-- where a transfer is open, a word leaves no reset held
+pub read-word-held : (f : Face) (m : List ℕ) (t : Transfer) → f .hot .transfer ≡ t → Fits f → isIdle t ≡ false → readWordAs f m t .face .hot .signals .held ≡ false
+read-word-held f m Idle e k o = absurd (false≢true (sym o))
+read-word-held f m (Reading r) e k o = read-run-free f m r (k .sound) (open-free f k (ap isIdle e)) (transfer-clause f (Reading r) k e) .free
+read-word-held f m (Writing r) e k o = open-free f k (ap isIdle e)
+read-word-held f m (ReadingBuffer n) e k o = read-buffer-free f n (k .sound) (open-free f k (ap isIdle e)) .free
+read-word-held f m (WritingBuffer n) e k o = open-free f k (ap isIdle e)
+read-word-held f m (TakingPassword b) e k o = open-free f k (ap isIdle e)
+
+pub write-word-held : (f : Face) (x : Secrets) (m : List ℕ) (w : ℕ) (t : Transfer) → f .hot .transfer ≡ t → Fits f → isIdle t ≡ false
+    → writeWordAs f x m w t .acted .face .hot .signals .held ≡ false
+write-word-held f x m w Idle e k o = absurd (false≢true (sym o))
+write-word-held f x m w (Reading r) e k o = open-free f k (ap isIdle e)
+write-word-held f x m w (Writing r) e k o = write-run-free f r w (k .sound) (open-free f k (ap isIdle e)) (transfer-clause f (Writing r) k e) .free
+write-word-held f x m w (ReadingBuffer n) e k o = open-free f k (ap isIdle e)
+write-word-held f x m w (WritingBuffer n) e k o = write-buffer-free f n w (k .sound) (open-free f k (ap isIdle e)) .free
+write-word-held f x m w (TakingPassword b) e k o = password-word-free f x b w (k .sound) (open-free f k (ap isIdle e)) (transfer-clause f (TakingPassword b) k e) .free
+
+-- ---- registers and resets
+
+-- the same reset held or not, and the same transfer
+record Kept (h k : Hot) : Type 0 where
+  held : k .signals .held ≡ h .signals .held
+  transfer : k .transfer ≡ h .transfer
+
+kept-pick : {h : Hot} (b : Bool) (x y : Hot) → Kept h x → Kept h y → Kept h (pick b x y)
+kept-pick true x y p q = p
+kept-pick false x y p q = q
+
+kept-seen : {h : Hot} (b : Bool) (x y : Seen) → Kept h (x .hot) → Kept h (y .hot) → Kept h (pick b x y .hot)
+kept-seen true x y p q = p
+kept-seen false x y p q = q
+
+kept-fits : (f : Face) (h : Hot) → Fits f → Kept (f .hot) h → Fits (withHot f h)
+unfolding heldFits
+kept-fits f h k e =
+    record { sound = k .sound; held = rw (e .held, e .transfer) (k .held); fits = ap (transferFits (f .settled)) (e .transfer) ∙ k .fits }
+
+read-kept : (h : Hot) (n : ℕ) → Kept h (readRegister h n .hot)
+unfolding readRegister
+read-kept h n =
+    kept-seen (eqb n 1) _ _ same (kept-seen (eqb n 2) _ _ same (kept-seen (eqb n 3) _ _ same (kept-seen (eqb n 4) _ _ same (kept-seen (eqb n 5) _ _ same
+    (kept-seen (eqb n 6) _ _ same (kept-seen (eqb n 7) _ _ record { held = refl; transfer = refl } (kept-seen (eqb n 8) _ _ same same)))))))
+  where
+    same : Kept h h
+    same = record { held = refl; transfer = refl }
+
+store-kept : (h : Hot) (n v : ℕ) → Kept h (storeRegister h n v)
+unfolding storeRegister
+store-kept h n v =
+    kept-pick (eqb n 1) _ _ record { held = refl; transfer = refl } (kept-pick (eqb n 2) _ _ record { held = refl; transfer = refl }
+    (kept-pick (eqb n 3) _ _ record { held = refl; transfer = refl } (kept-pick (eqb n 4) _ _ record { held = refl; transfer = refl }
+    (kept-pick (eqb n 5) _ _ record { held = refl; transfer = refl } record { held = refl; transfer = refl }))))
+
+put-kept : (h : Hot) (n v : ℕ) → Kept h (putRegister h n v)
+unfolding putRegister
+put-kept h n v = kept-pick (busyOf h) _ _ record { held = refl; transfer = refl } (store-kept h n v)
+
+pub power-on-fits : (f : Face) → settledFits (f .settled) ≡ true → Fits (poweredOnFace f)
+unfolding heldFits
+power-on-fits f s =
+    let k = settled-clauses (f .settled) s in
+    let t = translation-kept (f .settled) _ s (factory-allowed (f .settled .geometry) (k .geometry)) in
+    record { sound = security-kept _ _ t (sound-fits _ (power-on-sound (f .settled .security))); held = refl; fits = refl }
+
+soft-reset-fits : (f : Face) (masked : Bool) → settledFits (f .settled) ≡ true → Fits (softResetOf f masked)
+unfolding heldFits
+soft-reset-fits f masked s =
+    let k = settled-clauses (f .settled) s in
+    let t = translation-kept (f .settled) _ s (factory-allowed (f .settled .geometry) (k .geometry)) in
+    record { sound = security-kept _ _ t (sound-fits _ (unprepare-sound _ (fits-sound _ (k .security)))); held = refl; fits = refl }
+
+control-fits : (f : Face) (v : ℕ) → Fits f → Fits (controlOf f v)
+unfolding controlOf heldFits
+control-fits f v k =
+    pick-fits (srstOf v) _ _ (λ e. soft-reset-fits f (nienOf v) (k .sound)) (λ e. record { sound = k .sound; held = refl; fits = k .fits })
+
+pick-told : (b : Bool) (x y : Told) → Fits (x .face) → Fits (y .face) → Fits (pick b x y .face)
+pick-told true x y p q = p
+pick-told false x y p q = q
+
+write-register-fits : (f : Face) (m : List ℕ) (n v : ℕ) → Fits f → Fits (writeRegisterOf f m n v .face)
+unfolding writeRegisterOf
+write-register-fits f m n v k =
+    pick-told (within 1 6 n) _ _ (kept-fits f _ k (put-kept (f .hot) n v))
+    (pick-told (eqb n 7) _ _ (command-fits f m v k) (pick-told (eqb n 8) _ _ (control-fits f v k) k))
+
+-- every action keeps the disk in shape
+pub act-fits : (f : Face) (x : Secrets) (m : List ℕ) (a : Action) → Fits f → Fits (actOf f x m a .acted .face)
+unfolding actOf readWordOf writeWordOf
+act-fits f x m (ReadRegister n) k = kept-fits f _ k (read-kept (f .hot) n)
+act-fits f x m (WriteRegister n v) k = write-register-fits f m n v k
+act-fits f x m ReadWord k = read-word-fits f m (f .hot .transfer) refl k
+act-fits f x m (WriteWord w) k = write-word-fits f x m w (f .hot .transfer) refl k
+act-fits f x m HardwareReset k = power-on-fits f (k .sound)
+act-fits f x m PowerOn k = power-on-fits f (k .sound)
+act-fits f x m Line k = k
