@@ -6,6 +6,7 @@ use lib.Dec.{eqb}
 use Rattle.base.specs.Choice.{pick}
 use Rattle.lock.specs.declared.Secrets.{Secrets}
 use Rattle.face.specs.Face.{withHot, withBuffer}
+use Rattle.face.specs.Reads.{numberOf}
 use Rattle.face.specs.Quick.{quickOf, quickBuffer}
 use Rattle.face.specs.declared.Hot.{Hot}
 use Rattle.face.specs.declared.Face.{Face}
@@ -13,7 +14,7 @@ use Rattle.face.specs.declared.Seen.{Seen}
 use Rattle.face.specs.declared.Quick.{Quick}
 use Rattle.face.specs.declared.Quick.the-variants.{Settles, Slow}
 use Rattle.face.specs.declared.Answer.{Answer}
-use Rattle.face.specs.declared.Answer.the-variants.{Done}
+use Rattle.face.specs.declared.Answer.the-variants.{Done, NoRegister, OutOfShape, WrongLength, NoTransfer, SetupRefused}
 use Rattle.face.specs.declared.Action.{Action}
 use Rattle.face.specs.declared.Action.the-variants.{ReadRegister, WriteRegister, ReadWord, WriteWord, HardwareReset, PowerOn, Line}
 use Rattle.disk.specs.Actions.{Effect, actOf}
@@ -24,9 +25,18 @@ use Rattle.device.specs.declared.Outcome.{Outcome}
 abbrev pub deviceOf : Face → Secrets → Device
 deviceOf f x = record { face = f; secrets = x }
 
--- an answer, its value, and the device
+-- the table of answers, column "Returns": "the value" where it is done, else 0
+abbrev pub valueOf : Answer → ℕ → ℕ
+valueOf Done v = v
+valueOf NoRegister v = 0
+valueOf OutOfShape v = 0
+valueOf WrongLength v = 0
+valueOf NoTransfer v = 0
+valueOf SetupRefused v = 0
+
+-- an answer by its number, its value, and the device
 abbrev pub outcome : Device → Answer → ℕ → Outcome
-outcome d a v = record { answer = a; value = v; device = d }
+outcome d a v = record { number = numberOf a; value = valueOf a v; device = d }
 
 -- a host action's outcome, and every sector
 pub record Step : Type 0 where
@@ -63,6 +73,7 @@ stepAs e =
       sectors = e .sectors;
     }
 
+-- the action as the disk does it, DEV set or not
 abbrev pub actedOf : Device → List ℕ → Action → Step
 actedOf d m a = stepAs (actOf (d .face) (d .secrets) m a)
 

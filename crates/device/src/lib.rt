@@ -2,7 +2,7 @@
 ghost use mathlib.Core.Path.{_≡_};
 ghost use Rattle.transfers.specs.Sectors.{Memory};
 ghost use Rattle.device.specs.Setup.{zeroHot, zeroIdentity, zeroSettled, zeroFace, zeroDevice, freshSettled, freshOf, setupOf};
-ghost use Rattle.device.specs.Alone.{devSet, unansweredOf, ignoredOf, quickAlone, quickAloneBuffer, outcome, quickOutcome, actedOf, aloneOf};
+ghost use Rattle.device.specs.Alone.{devSet, unansweredOf, ignoredOf, quickAlone, quickAloneBuffer, valueOf, outcome, quickOutcome, actedOf, aloneOf};
 ghost use Rattle.device.specs.Host.{aloneFits, shapedOf, stepOf};
 use address::AddressRegisters;
 use face::Action;
@@ -28,11 +28,25 @@ pub struct Device {
     pub secrets: Secrets,
 }
 
-// The answer and its value, and the device as the action left it.
+// The answer's number and value, and the device as the action left it.
 pub struct Outcome {
-    pub answer: Answer,
+    pub number: u8,
     pub value: u16,
     pub device: Device,
+}
+
+// Only an action that is done has a value.
+fn value_of(answer: Answer, value: u16) -> u16
+    ensures { λ r. ⌜ r ≡ valueOf answer value ⌝ }
+{
+    match answer {
+        Answer::Done => value,
+        Answer::NoRegister => 0,
+        Answer::OutOfShape => 0,
+        Answer::WrongLength => 0,
+        Answer::NoTransfer => 0,
+        Answer::SetupRefused => 0,
+    }
 }
 
 fn zero_hot() -> Hot
@@ -213,8 +227,8 @@ impl Device {
         ensures { λ r. ⌜ r ≡ outcome self answer value ⌝ }
     {
         Outcome {
-            answer,
-            value,
+            number: answer.number(),
+            value: value_of(answer, value),
             device: self,
         }
     }
@@ -263,7 +277,7 @@ impl Device {
         device.shows(answer, left.value)
     }
 
-    // An action on a device in shape over its own memory, the long way.
+    // An action over the disk's own memory, the long way.
     pub fn act(self, action: Action, sectors: &mut [u8]) -> Outcome
         requires { ⌜ Memory (self .face .settled .geometry) (self .face .settled .translation) (now sectors) ⌝ }
         ensures { λ r. ⌜ (r ≡ aloneOf self (now (sectors .entry)) action .outcome) × (now (sectors .exit) ≡ aloneOf self (now (sectors .entry)) action .sectors) ⌝ }

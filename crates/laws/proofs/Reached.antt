@@ -402,6 +402,7 @@ alone-shaped d m a s = go (ignoredOf (d .face .hot) a) refl
   where
     k : Fits (d .face)
     k = shape-clauses (d .face) (shaped-disk d s .0)
+
     go : (b : Bool) → ignoredOf (d .face .hot) a ≡ b → shapedOf (aloneOf d m a .outcome .device) ≡ true
     go true e = rw e s
     go false e =
@@ -423,6 +424,7 @@ fresh-shaped g i p e h = shaped-of _ (clauses-shape _ (power-on-fits (withSettle
   where
     secure : securityFits (freshSettled g i .security) ≡ true
     secure = refl
+
     settled : settledFits (freshSettled g i) ≡ true
     settled = clauses-settled (freshSettled g i) record { geometry = e; identity = h; translation = factory-allowed g e; security = secure }
 

@@ -13,14 +13,14 @@ use Rattle.lock.specs.declared.Secrets.{Secrets}
 use Rattle.settled.specs.Identity.{identityFits}
 use Rattle.settled.specs.declared.Identity.{Identity}
 use Rattle.face.specs.Face.{withHot}
-use Rattle.face.specs.Reads.{seen, readRegister}
+use Rattle.face.specs.Reads.{numberOf, seen, readRegister}
 use Rattle.face.specs.declared.Hot.{Hot}
 use Rattle.face.specs.declared.Face.{Face}
 use Rattle.face.specs.declared.Seen.{Seen}
 use Rattle.face.specs.declared.Transfer.{Transfer}
 use Rattle.face.specs.declared.Transfer.the-variants.{Idle, Reading, Writing, ReadingBuffer, WritingBuffer, TakingPassword}
 use Rattle.face.specs.declared.Answer.{Answer}
-use Rattle.face.specs.declared.Answer.the-variants.{Done, NoRegister}
+use Rattle.face.specs.declared.Answer.the-variants.{Done, NoRegister, OutOfShape, WrongLength}
 use Rattle.face.specs.declared.Action.{Action}
 use Rattle.face.specs.declared.Action.the-variants.{ReadRegister, WriteRegister, ReadWord, WriteWord, HardwareReset, PowerOn, Line}
 use Rattle.transfers.specs.Words.{told, noTransfer, readWordAs, readWordOf}
@@ -28,7 +28,7 @@ use Rattle.transfers.specs.declared.Told.{Told}
 use Rattle.disk.specs.Passwords.{passwordLast, passwordWord}
 use Rattle.disk.specs.Actions.{Effect, wordRefused, writeRegisterOf, writeWordAs, writeWordOf, actOf}
 use Rattle.disk.specs.declared.Acted.{Acted}
-use Rattle.device.specs.Alone.{Step, deviceOf, outcome, ignoredOf, actedOf, aloneOf}
+use Rattle.device.specs.Alone.{Step, deviceOf, valueOf, outcome, shown, ignoredOf, actedOf, aloneOf}
 use Rattle.device.specs.Host.{shapedOf, memoryLength, stepOf}
 use Rattle.device.specs.Setup.{freshOf, setupRefused, setupOf}
 use Rattle.device.specs.declared.Device.{Device}
@@ -82,34 +82,34 @@ write-word-answer f x m w (TakingPassword b) = inl (pick-done (ltb (b .word) 255
 
 -- an action on a disk, seen from the device
 abbrev Honest : Device → List ℕ → Step → Type 0
-Honest d m s = (s .outcome .answer ≡ Done) ⊎ Unchanged d m s
+Honest d m s = (s .outcome .number ≡ 0) ⊎ Unchanged d m s
 
 act-honest : (d : Device) (m : List ℕ) (a : Action) → Honest d m (actedOf d m a)
 unfolding actOf readWordOf writeWordOf
 act-honest d m (ReadRegister n) = go (read-answer (d .face .hot) n)
   where
     go : (readRegister (d .face .hot) n .answer ≡ Done) ⊎ (readRegister (d .face .hot) n ≡ seen (d .face .hot) NoRegister 0) → Honest d m (actedOf d m (ReadRegister n))
-    go (inl e) = inl e
+    go (inl e) = inl (ap numberOf e)
     go (inr e) =
-        inr record { value = ap (λ (s : Seen). s .value) e; device = ap (λ (s : Seen). deviceOf (withHot (d .face) (s .hot)) (d .secrets)) e; sectors = refl }
+        inr record { value = ap (λ (s : Seen). valueOf (s .answer) (s .value)) e; device = ap (λ (s : Seen). deviceOf (withHot (d .face) (s .hot)) (d .secrets)) e; sectors = refl }
 act-honest d m (WriteRegister n v) = go (write-answer (d .face) m n v)
   where
     go : (writeRegisterOf (d .face) m n v .answer ≡ Done) ⊎ (writeRegisterOf (d .face) m n v ≡ told (d .face) NoRegister 0) → Honest d m (actedOf d m (WriteRegister n v))
-    go (inl e) = inl e
-    go (inr e) = inr record { value = ap (λ (s : Told). s .value) e; device = ap (λ (s : Told). deviceOf (s .face) (d .secrets)) e; sectors = refl }
+    go (inl e) = inl (ap numberOf e)
+    go (inr e) = inr record { value = ap (λ (s : Told). valueOf (s .answer) (s .value)) e; device = ap (λ (s : Told). deviceOf (s .face) (d .secrets)) e; sectors = refl }
 act-honest d m ReadWord = go (read-word-answer (d .face) m (d .face .hot .transfer))
   where
     go : (readWordAs (d .face) m (d .face .hot .transfer) .answer ≡ Done) ⊎ (readWordAs (d .face) m (d .face .hot .transfer) ≡ noTransfer (d .face)) → Honest d m (actedOf d m ReadWord)
-    go (inl e) = inl e
-    go (inr e) = inr record { value = ap (λ (s : Told). s .value) e; device = ap (λ (s : Told). deviceOf (s .face) (d .secrets)) e; sectors = refl }
+    go (inl e) = inl (ap numberOf e)
+    go (inr e) = inr record { value = ap (λ (s : Told). valueOf (s .answer) (s .value)) e; device = ap (λ (s : Told). deviceOf (s .face) (d .secrets)) e; sectors = refl }
 act-honest d m (WriteWord w) = go (write-word-answer (d .face) (d .secrets) m w (d .face .hot .transfer))
   where
     go : (writeWordAs (d .face) (d .secrets) m w (d .face .hot .transfer) .acted .answer ≡ Done) ⊎ (writeWordAs (d .face) (d .secrets) m w (d .face .hot .transfer) ≡ wordRefused (d .face) (d .secrets) m)
         → Honest d m (actedOf d m (WriteWord w))
-    go (inl e) = inl e
+    go (inl e) = inl (ap numberOf e)
     go (inr e) =
         inr record {
-          value = ap (λ (s : Effect). s .acted .value) e;
+          value = ap (λ (s : Effect). valueOf (s .acted .answer) (s .acted .value)) e;
           device = ap (λ (s : Effect). deviceOf (s .acted .face) (s .acted .secrets)) e;
           sectors = ap (λ (s : Effect). s .sectors) e;
         }
@@ -118,13 +118,14 @@ act-honest d m PowerOn = inl refl
 act-honest d m Line = inl refl
 
 -- every call of the host answers 0, or gives 0 and changes nothing
-pub step-honest : (d : Device) (m : List ℕ) (a : Action) → (stepOf d m a .outcome .answer ≡ Done) ⊎ Unchanged d m (stepOf d m a)
+pub step-honest : (d : Device) (m : List ℕ) (a : Action) → (stepOf d m a .outcome .number ≡ 0) ⊎ Unchanged d m (stepOf d m a)
 unfolding stepOf aloneOf
 step-honest d m a =
-    go (shapedOf d) _ _ (go (eqb (length m) (memoryLength d)) _ _ (go (ignoredOf (d .face .hot) a) _ _ (inl refl) (act-honest d m a)) still) still
+    go (shapedOf d) _ _ (go (eqb (length m) (memoryLength d)) _ _ (go (ignoredOf (d .face .hot) a) _ _ (inl refl) (act-honest d m a)) (still WrongLength refl)) (still OutOfShape refl)
   where
-    still : {x : Answer} → Honest d m (record { outcome = outcome d x 0; sectors = m })
-    still = inr record { value = refl; device = refl; sectors = refl }
+    still : (x : Answer) → valueOf x 0 ≡ 0 → Honest d m (shown d m x 0)
+    still x e = inr record { value = e; device = refl; sectors = refl }
+
     go : (b : Bool) (s t : Step) → Honest d m s → Honest d m t → Honest d m (pick b s t)
     go true s t p q = p
     go false s t p q = q
