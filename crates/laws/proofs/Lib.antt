@@ -1,3 +1,6 @@
 pub mod Shape
 pub mod Reached
 pub mod Refusals
+pub mod Stored
+pub mod Endings
+pub mod Opens
