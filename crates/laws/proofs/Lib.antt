@@ -4,3 +4,4 @@ pub mod Refusals
 pub mod Stored
 pub mod Endings
 pub mod Opens
+pub mod ReadBack
