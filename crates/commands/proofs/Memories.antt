@@ -1,5 +1,4 @@
 -- The stations before a command leave geometry and translation, so the lent memory stays this disk's.
-use mathlib.Core.Path.{_≡_, refl}
 use mathlib.Core.List.{List}
 use Prim.Native.Nat.{ℕ}
 use Rattle.lock.specs.declared.Purpose.{Purpose}

@@ -1,5 +1,4 @@
 -- The other commands (document 01, "Commands" and "The lock").
-use Prim.Native.Nat.{ℕ}
 use Rattle.base.specs.Choice.{pick}
 use Rattle.geometry.specs.Translation.{initializedOf}
 use Rattle.geometry.specs.declared.Initialized.{Initialized}

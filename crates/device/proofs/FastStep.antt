@@ -4,9 +4,9 @@ use mathlib.Core.Path.{_≡_, refl, sym, ap, _∙_}
 use mathlib.Core.List.{List}
 use Prim.Native.Nat.{ℕ}
 use lib.Dec.{ltb}
-use Rattle.base.specs.Choice.{pick, within}
+use Rattle.base.specs.Choice.{pick}
 use Rattle.base.proofs.Tests.{zero≢one}
-use Rattle.face.specs.Quick.{quickReadOf, quickWriteOf, quickWriteBuffer, quickPutOf, quickOf, quickBuffer}
+use Rattle.face.specs.Quick.{quickWriteOf, quickWriteBuffer, quickOf, quickBuffer}
 use Rattle.face.specs.declared.Hot.{Hot}
 use Rattle.face.specs.declared.Seen.{Seen}
 use Rattle.face.specs.declared.Transfer.{Transfer}

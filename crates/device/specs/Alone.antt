@@ -12,7 +12,7 @@ use Rattle.face.specs.declared.Hot.{Hot}
 use Rattle.face.specs.declared.Face.{Face}
 use Rattle.face.specs.declared.Seen.{Seen}
 use Rattle.face.specs.declared.Quick.{Quick}
-use Rattle.face.specs.declared.Quick.the-variants.{Settles, Slow}
+use Rattle.face.specs.declared.Quick.the-variants.{Slow}
 use Rattle.face.specs.declared.Answer.{Answer}
 use Rattle.face.specs.declared.Answer.the-variants.{Done, NoRegister, OutOfShape, WrongLength, NoTransfer, SetupRefused}
 use Rattle.face.specs.declared.Action.{Action}

@@ -1,7 +1,7 @@
 // The device: one disk alone on its cable. Setup, the host's actions with every refusal, and the rules for DEV.
 ghost use mathlib.Core.Path.{_≡_};
 ghost use Rattle.transfers.specs.Sectors.{Memory};
-ghost use Rattle.device.specs.Setup.{zeroHot, zeroIdentity, zeroSettled, zeroFace, zeroDevice, freshSettled, freshOf, setupOf};
+ghost use Rattle.device.specs.Setup.{zeroHot, zeroIdentity, zeroSettled, zeroFace, zeroDevice, freshOf, setupOf};
 ghost use Rattle.device.specs.Alone.{devSet, unansweredOf, ignoredOf, quickAlone, quickAloneBuffer, valueOf, outcome, quickOutcome, actedOf, aloneOf};
 ghost use Rattle.device.specs.Host.{aloneFits, shapedOf, stepOf};
 use address::AddressRegisters;

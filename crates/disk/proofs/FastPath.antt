@@ -4,9 +4,9 @@ use mathlib.Core.Path.{_≡_, refl}
 use mathlib.Core.List.{List}
 use Prim.Native.Nat.{ℕ}
 use lib.Dec.{ltb}
-use Rattle.base.specs.Choice.{pick, within}
+use Rattle.base.specs.Choice.{within}
 use Rattle.lock.specs.declared.Secrets.{Secrets}
-use Rattle.face.specs.Face.{withHot, withBuffer}
+use Rattle.face.specs.Face.{withBuffer}
 use Rattle.face.specs.Quick.{quickReadOf, quickWriteOf, quickWriteBuffer, quickPutOf, quickOf, quickBuffer}
 use Rattle.face.specs.declared.Face.{Face}
 use Rattle.face.specs.declared.Run.{Run}
@@ -18,7 +18,7 @@ use Rattle.face.specs.declared.Action.the-variants.{ReadRegister, WriteRegister
 use Rattle.face.specs.declared.Quick.{Quick}
 use Rattle.face.specs.declared.Quick.the-variants.{Settles, Slow}
 use Rattle.transfers.specs.Words.{readWordAs, readWordOf, readRunOf, readBufferWord, writeRunOf, writeRunSectors, writeBufferWord}
-use Rattle.disk.specs.Passwords.{acted, passwordWord, passwordWordSectors}
+use Rattle.disk.specs.Passwords.{passwordWord, passwordWordSectors}
 use Rattle.disk.specs.Actions.{Effect, effect, seenActed, toldActed, writeRegisterOf, writeWordAs, writeWordOf, actOf}
 
 -- what the fast path settled, put in place; else what the long way gives

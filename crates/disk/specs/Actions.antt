@@ -11,7 +11,6 @@ use Rattle.face.specs.Resets.{poweredOnFace, controlOf}
 use Rattle.face.specs.declared.Transfer.{Transfer}
 use Rattle.face.specs.declared.Transfer.the-variants.{Idle, Reading, Writing, ReadingBuffer, WritingBuffer, TakingPassword}
 use Rattle.face.specs.declared.Seen.{Seen}
-use Rattle.face.specs.declared.Answer.{Answer}
 use Rattle.face.specs.declared.Answer.the-variants.{Done, NoRegister, NoTransfer}
 use Rattle.face.specs.declared.Action.{Action}
 use Rattle.face.specs.declared.Action.the-variants.{ReadRegister, WriteRegister, ReadWord, WriteWord, HardwareReset, PowerOn, Line}

@@ -256,7 +256,7 @@ fn told_acts(secrets: Secrets, told: Told) -> Acted
     acts(face, secrets, answer, told.value)
 }
 
-// A host action on a disk in shape over its own memory.
+// A host action over the disk's own memory.
 pub fn act(face: Face, secrets: Secrets, action: Action, sectors: &mut [u8]) -> Acted
     requires { ⌜ Memory (face .settled .geometry) (face .settled .translation) (now sectors) ⌝ }
     ensures { λ r. ⌜ (r ≡ actOf face secrets (now (sectors .entry)) action .acted) × (now (sectors .exit) ≡ actOf face secrets (now (sectors .entry)) action .sectors) ⌝ }

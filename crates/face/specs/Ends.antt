@@ -1,13 +1,12 @@
 -- How a command starts, goes on and ends, in the register file (document 01, "Registers").
 use Prim.Native.Nat.{ℕ}
-use mathlib.Core.Bool.{Bool, true, false}
+use mathlib.Core.Bool.{true, false}
 use Rattle.address.specs.declared.AddressRegisters.{AddressRegisters}
 use Rattle.face.specs.Registers.{withError, withCount, withAt}
-use Rattle.face.specs.Face.{withRaised, withFailed, withRegs, withSignals, withTransfer, withHot}
+use Rattle.face.specs.Face.{withRaised, withFailed, withRegs, withSignals, withTransfer}
 use Rattle.face.specs.declared.Transfer.{Transfer}
 use Rattle.face.specs.declared.Transfer.the-variants.{Idle}
 use Rattle.face.specs.declared.Hot.{Hot}
-use Rattle.face.specs.declared.Face.{Face}
 
 -- "A command first clears Error and the interrupt"; Status 51h ends too
 abbrev pub clearedOf : Hot → Hot

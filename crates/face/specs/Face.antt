@@ -1,6 +1,6 @@
 -- The parts of the face, each with one part changed.
 use Prim.Native.Nat.{ℕ}
-use mathlib.Core.Bool.{Bool, true, false}
+use mathlib.Core.Bool.{Bool, false}
 use mathlib.Core.List.{List}
 use Rattle.settled.specs.declared.Settled.{Settled}
 use Rattle.face.specs.Registers.{startRegisters}

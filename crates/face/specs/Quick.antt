@@ -1,7 +1,6 @@
--- The fast path: what the register file, the transfer and the buffer settle by themselves. The device crate shows that it is the
--- word-by-word action, for every device and every action.
+-- The fast path: what the register file, the transfer and the buffer settle by themselves. The disk crate's law quick-act shows that
+-- it is the word-by-word action, for every disk and every action.
 use Prim.Native.Nat.{ℕ, _+_}
-use mathlib.Core.Bool.{Bool}
 use mathlib.Core.List.{List}
 use lib.Dec.{ltb}
 use Rattle.base.specs.Choice.{pick, within}

@@ -1,12 +1,12 @@
 // All that a guest's answers may depend on: the register file and the transfer (hot), what commands seldom touch (settled), the buffer.
 ghost use mathlib.Core.Path.{_≡_};
 ghost use Prim.Native.Nat.{_<_};
-ghost use Rattle.face.specs.Registers.{startAddress, startRegisters, withError, withFeatures, withCount, withAt, withLow, withHigh, withDeviceHead};
-ghost use Rattle.face.specs.Face.{noSignals, startHot, withRegs, withSignals, withTransfer, withHot, withSettled, withBuffer};
+ghost use Rattle.face.specs.Registers.{startRegisters};
+ghost use Rattle.face.specs.Face.{noSignals, startHot, withRegs, withTransfer, withHot, withSettled, withBuffer};
 ghost use Rattle.face.specs.Reads.{numberOf, isIdle, statusOf, seen, quietOf, readRegister, lineOf};
 ghost use Rattle.face.specs.Writes.{busyOf, storeRegister, putRegister, srstOf, nienOf, heldHot, releasedOf};
 ghost use Rattle.face.specs.Ends.{clearedOf, raisedOf, finishOf, failOf, endedAt};
-ghost use Rattle.face.specs.Resets.{dropPurpose, dropAs, droppedOf, softResetOf, poweredOnFace, controlOf};
+ghost use Rattle.face.specs.Resets.{dropPurpose, droppedOf, softResetOf, poweredOnFace, controlOf};
 ghost use Rattle.face.specs.Quick.{nextWord, nextPasswordWord, quickReadOf, quickWriteOf, quickWriteBuffer, quickPutOf, quickOf, quickBuffer};
 use address::AddressRegisters;
 use lock::Purpose;

@@ -8,6 +8,7 @@ use borrow.Author.Tests.{ne-eqb}
 use lib.Dec.{eqb}
 use Rattle.base.specs.Choice.{pick, within}
 use Rattle.base.proofs.Tests.{false≢true}
+use Rattle.base.proofs.Lists.{among}
 use Rattle.block.specs.Words.{wordAt}
 use Rattle.geometry.specs.Geometry.{capacityOf}
 use Rattle.geometry.specs.Translation.{productOf}
@@ -60,11 +61,6 @@ numbered s =
 -- the numbers of the listed words that are no text
 abbrev pub listedNumbers : List ℕ
 listedNumbers = 0 ∷ 1 ∷ 3 ∷ 6 ∷ 49 ∷ 53 ∷ 54 ∷ 55 ∷ 56 ∷ 57 ∷ 58 ∷ 60 ∷ 61 ∷ 80 ∷ 82 ∷ 83 ∷ 128 ∷ []
-
--- n is in the list
-abbrev pub among : ℕ → List ℕ → Bool
-among n [] = false
-among n (k ∷ ks) = pick (eqb n k) true (among n ks)
 
 -- n is a word that the paper lists
 abbrev pub listed : ℕ → Bool

@@ -1,12 +1,12 @@
 -- A transfer ends within 65,536 data words: each word that is taken leaves fewer, and no command opens one with more.
 use mathlib.Core.Bool.{Bool, true, false}
-use mathlib.Core.Path.{_≡_, refl, sym, ap, _∙_}
+use mathlib.Core.Path.{_≡_, refl}
 use mathlib.Core.List.{List, [], _∷_}
 use lib.ListN.{length}
-use Prim.Native.Nat.{ℕ, zero, suc, _+_, _-_, _*_, _%_, _≤_, _<_}
+use Prim.Native.Nat.{ℕ, _+_, _-_, _*_, _≤_, _<_}
 use native.Mathlib.Omega.{arith}
-use lib.Dec.{eqb, ltb}
-use borrow.Author.Tests.{ltb-true, ltb-false}
+use lib.Dec.{ltb}
+use borrow.Author.Tests.{ltb-true}
 use Rattle.base.specs.Choice.{pick}
 use Rattle.base.proofs.Tests.{zero≢one}
 use Rattle.address.specs.declared.Address.{Address}
@@ -23,7 +23,7 @@ use Rattle.face.specs.declared.Transfer.the-variants.{Idle, Reading, Writing, R
 use Rattle.face.specs.declared.Answer.the-variants.{Done, NoTransfer}
 use Rattle.face.specs.declared.Action.{Action}
 use Rattle.face.specs.declared.Action.the-variants.{ReadWord, WriteWord}
-use Rattle.transfers.specs.Sectors.{located, afterOf, firstRun, nextRun, notFoundOf, readAs, readAt, readSectorsOf, writeAs, writeAt, writeSectorsOf}
+use Rattle.transfers.specs.Sectors.{located, nextRun, notFoundOf, readAs, readAt}
 use Rattle.transfers.specs.Words.{readNextOf, readRunOf, readBufferWord, readWordAs, readWordOf, wordIn, wantAs, wantAt, writeNextOf, writeLastAs, writeLastOf, writeRunOf, writeBufferWord}
 use Rattle.disk.specs.Passwords.{passwordEnded, endedAs, judgementOf, passwordLast, passwordWord}
 use Rattle.disk.specs.Actions.{writeWordAs, writeWordOf, actOf}
@@ -94,7 +94,7 @@ read-run-fewer f m r p q =
     (λ e. let h = word-less (r .after) (r .word) p (ltb-true _ _ e) in record { less = h .0; bytes = (p, h .1) })
     (λ e. pick-fewer (ltb 0 (r .after)) _ _
     (λ z. let h = next-less (r .after) (r .word) (ltb-true _ _ z) p q in
-        read-fewer _ f m (nextRun r (f .settled .translation)) (located (f .settled) (nextRun r (f .settled .translation) .at)) refl (h .1) (h .0))
+    read-fewer _ f m (nextRun r (f .settled .translation)) (located (f .settled) (nextRun r (f .settled .translation) .at)) refl (h .1) (h .0))
     (λ z. record { less = none-less (r .after) (r .word) q; bytes = tt }))
 
 write-next-fewer : (f : Face) (r : Run) → r .after < 256 → r .word < 256 → Fewer (256 * r .after + (256 - r .word)) (writeNextOf f r)
@@ -102,7 +102,7 @@ unfolding writeNextOf wantAt
 write-next-fewer f r p q =
     pick-fewer (ltb 0 (r .after)) _ _
     (λ z. let h = next-less (r .after) (r .word) (ltb-true _ _ z) p q in
-        want-fewer _ f (nextRun r (f .settled .translation)) (located (f .settled) (nextRun r (f .settled .translation) .at)) refl (h .1) (h .0))
+    want-fewer _ f (nextRun r (f .settled .translation)) (located (f .settled) (nextRun r (f .settled .translation) .at)) refl (h .1) (h .0))
     (λ z. record { less = none-less (r .after) (r .word) q; bytes = tt })
 
 write-last-fewer : (f : Face) (r : Run) (a : Address) → r .after < 256 → r .word < 256 → Fewer (256 * r .after + (256 - r .word)) (writeLastAs f r a)

@@ -1,35 +1,28 @@
 -- The right password opens, and an accepted ERASE UNIT leaves all sectors zero and security off, seen from the host's call.
-use mathlib.Core.Bool.{Bool, true, false}
-use mathlib.Core.Path.{_≡_, refl, sym, ap, _∙_}
+use mathlib.Core.Bool.{true, false}
+use mathlib.Core.Path.{_≡_, ap, _∙_}
 use mathlib.Core.List.{List}
 use Prim.Native.Nat.{ℕ, _≤_}
-use lib.Dec.{eqb, ltb}
-use lib.ListN.{length}
 use borrow.Author.Tests.{eq-eqb, le-ltb}
-use Rattle.base.specs.Choice.{pick}
 use Rattle.block.specs.Sectors.{zeroBlock, zeroed}
 use Rattle.block.specs.Words.{wordPut}
 use Rattle.lock.specs.Lock.{isLocked, openedOf, unpreparedOf, disabledOf}
 use Rattle.lock.specs.Passwords.{zeroPassword, withUser}
 use Rattle.lock.specs.Judging.{judged, acceptsOf, judgeOf}
-use Rattle.lock.specs.declared.Security.{Security}
-use Rattle.lock.specs.declared.Secrets.{Secrets}
 use Rattle.lock.specs.declared.Judged.{Judged}
 use Rattle.lock.specs.declared.Purpose.{Purpose}
 use Rattle.lock.specs.declared.Purpose.the-variants.{Unlock, Erase}
-use Rattle.lock.specs.declared.Verdict.the-variants.{EndsWell, Aborts, Erases}
+use Rattle.lock.specs.declared.Verdict.the-variants.{EndsWell}
 use Rattle.lock.proofs.Opening.{SendsUser, SendsMaster, user-opens, master-opens, erases}
 use Rattle.face.specs.declared.PasswordBlock.{PasswordBlock}
-use Rattle.face.specs.declared.Face.{Face}
 use Rattle.face.specs.declared.Transfer.{Transfer}
 use Rattle.face.specs.declared.Transfer.the-variants.{TakingPassword}
-use Rattle.face.specs.declared.Answer.the-variants.{Done}
 use Rattle.face.specs.declared.Action.the-variants.{WriteWord}
 use Rattle.transfers.specs.Words.{wordIn}
 use Rattle.disk.specs.Passwords.{sectorsAs, judgedActed, passwordLast, passwordLastSectors, passwordWord, passwordWordSectors}
-use Rattle.disk.specs.Actions.{Effect, effect, writeWordAs, writeWordOf, actOf}
+use Rattle.disk.specs.Actions.{effect, writeWordAs, writeWordOf, actOf}
 use Rattle.device.specs.Alone.{Step, stepAs, ignoredOf, aloneOf}
-use Rattle.device.specs.Host.{shapedOf, memoryLength, stepOf}
+use Rattle.device.specs.Host.{stepOf}
 use Rattle.device.specs.declared.Device.{Device}
 use Rattle.laws.proofs.Stored.{Ready}
 

@@ -8,15 +8,12 @@ use lib.Dec.{eqb, ltb}
 use lib.ListN.{length}
 use borrow.Author.Tests.{eqb-true}
 use Rattle.base.specs.Choice.{pick, within}
-use Rattle.base.proofs.Tests.{false≢true, both-true, zero≢one}
-use Rattle.geometry.specs.Geometry.{geometryFits, checkedOf}
+use Rattle.base.proofs.Tests.{false≢true}
+use Rattle.geometry.specs.Geometry.{geometryFits}
 use Rattle.geometry.specs.declared.Geometry.{Geometry}
-use Rattle.geometry.specs.declared.Checked.{Checked}
-use Rattle.geometry.specs.declared.Checked.the-variants.{Within, OutsideLimits}
 use Rattle.geometry.specs.Translation.{initializedOf}
 use Rattle.geometry.specs.declared.Initialized.{Initialized}
 use Rattle.geometry.specs.declared.Initialized.the-variants.{To, Aborted}
-use Rattle.geometry.proofs.Limits.{checked-within}
 use Rattle.geometry.proofs.Translations.{factory-allowed}
 use Rattle.address.specs.Successor.{successorOf}
 use Rattle.address.specs.declared.AddressRegisters.{AddressRegisters}
@@ -38,17 +35,14 @@ use Rattle.settled.specs.declared.Identity.{Identity}
 use Rattle.settled.proofs.Clauses.{clauses-settled}
 use Rattle.face.specs.Face.{withSettled}
 use Rattle.face.specs.Reads.{isIdle, readRegister}
-use Rattle.face.specs.Writes.{busyOf, storeRegister, putRegister, srstOf, nienOf}
+use Rattle.face.specs.Writes.{busyOf, storeRegister, putRegister, srstOf}
 use Rattle.face.specs.Resets.{dropPurpose, dropAs, droppedOf, controlOf}
 use Rattle.face.specs.declared.Run.{Run}
-use Rattle.face.specs.declared.PasswordBlock.{PasswordBlock}
 use Rattle.face.specs.declared.Transfer.{Transfer}
 use Rattle.face.specs.declared.Transfer.the-variants.{Idle, Reading, Writing, ReadingBuffer, WritingBuffer, TakingPassword}
 use Rattle.face.specs.declared.Hot.{Hot}
 use Rattle.face.specs.declared.Face.{Face}
 use Rattle.face.specs.declared.Seen.{Seen}
-use Rattle.face.specs.declared.Answer.{Answer}
-use Rattle.face.specs.declared.Answer.the-variants.{Done, SetupRefused}
 use Rattle.face.specs.declared.Action.{Action}
 use Rattle.face.specs.declared.Action.the-variants.{ReadRegister, WriteRegister, ReadWord, WriteWord, HardwareReset, PowerOn, Line}
 use Rattle.transfers.specs.Sectors.{located, afterOf, firstRun, nextRun, notFoundOf, readAs, readAt, readSectorsOf, writeAs, writeAt, writeSectorsOf, verifyAs, verifyLast, verifyFrom, verifySectorsOf}
@@ -56,14 +50,14 @@ use Rattle.transfers.specs.Words.{readNextOf, readRunOf, readBufferWord, readWo
 use Rattle.transfers.specs.declared.Told.{Told}
 use Rattle.commands.specs.Others.{seekAs, seekOf, recalibrateOf, initializeAs, initializeParametersOf, diagnosticOf, identifyDeviceOf, readBufferOf, writeBufferOf, takePasswordOf, erasePrepareOf, freezeLockOf}
 use Rattle.commands.specs.Gate.{begunOf, abortAtOnce, runOf, stationsOf, commandOf}
-use Rattle.disk.specs.Shape.{heldFits, diskFits}
+use Rattle.disk.specs.Shape.{diskFits}
 use Rattle.disk.specs.Passwords.{passwordEnded, endedAs, judgementOf, passwordLast, passwordWord}
 use Rattle.disk.specs.declared.Acted.{Acted}
 use Rattle.disk.specs.Actions.{writeRegisterOf, writeWordAs, writeWordOf, actOf}
 use Rattle.disk.proofs.Clauses.{Fits, shape-clauses, clauses-shape}
-use Rattle.device.specs.Alone.{devSet, unansweredOf, ignoredOf, aloneOf}
+use Rattle.device.specs.Alone.{devSet, ignoredOf, aloneOf}
 use Rattle.device.specs.Host.{aloneFits, shapedOf, memoryLength, stepOf}
-use Rattle.device.specs.Setup.{zeroFace, zeroDevice, freshSettled, freshOf, setupAs, setupOf}
+use Rattle.device.specs.Setup.{zeroFace, zeroDevice, freshSettled, freshOf}
 use Rattle.device.specs.declared.Device.{Device}
 use Rattle.device.proofs.Memories.{shaped-disk}
 use Rattle.laws.proofs.Shape.{act-fits, power-on-fits, command-held, read-word-held, write-word-held}

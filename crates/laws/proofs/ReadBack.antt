@@ -1,15 +1,12 @@
 -- A sector written is the sector read back: 256 words written store just these words, and 256 words read are the sector's.
-use mathlib.Core.Bool.{Bool, true, false}
 use mathlib.Core.Path.{_≡_, refl, sym, ap, _∙_}
 use mathlib.Core.List.{List, [], _∷_}
 use Prim.Native.Nat.{ℕ, zero, suc, _+_, _*_, _≤_, _<_}
 use native.Mathlib.Omega.{arith}
-use lib.Dec.{eqb, ltb}
 use lib.ListN.{length}
 use borrow.Author.Tests.{eq-eqb, lt-ltb}
-use Rattle.base.specs.Choice.{pick}
 use Rattle.address.specs.declared.Address.{Address}
-use Rattle.address.specs.declared.Address.the-variants.{Names, Faults}
+use Rattle.address.specs.declared.Address.the-variants.{Names}
 use Rattle.address.specs.declared.Sector.{Sector}
 use Rattle.block.specs.Words.{wordAt, wordPut}
 use Rattle.block.specs.Sectors.{sectorAt, storedAt}
@@ -28,7 +25,7 @@ use Rattle.transfers.specs.Words.{readRunOf, readWordAs, readWordOf, wordIn, wr
 use Rattle.transfers.proofs.Reached.{memory-room}
 use Rattle.disk.specs.Actions.{effect, toldActed, writeWordAs, writeWordOf, actOf}
 use Rattle.device.specs.Alone.{Step, deviceOf, outcome, stepAs, ignoredOf, aloneOf}
-use Rattle.device.specs.Host.{shapedOf, memoryLength, stepOf}
+use Rattle.device.specs.Host.{shapedOf, stepOf}
 use Rattle.device.specs.declared.Device.{Device}
 use Rattle.device.proofs.Memories.{shaped-memory}
 use Rattle.laws.proofs.Reached.{step-shaped}
@@ -156,20 +153,25 @@ written-read-back ws d m r x e q k t z l n b j u y o = (values, λ n h. ap (λ (
   where
     block : List ℕ
     block = putAll (d .face .buffer) 0 ws
+
     stored : sectorsAfter d m ws ≡ storedAt m (x .number) block
     stored =
         sector-written ws d m r x k t (let h : r .word ≡ 0 = z in let g : length ws ≡ 256 = l in omega arith) (let h : r .word ≡ 0 = z in omega arith) n
         ∙ ap (λ (i : ℕ). storedAt m (x .number) (putAll (d .face .buffer) i ws)) z
+
     room : Room m (x .number) block
     room =
         record {
           inside = memory-room (shaped-memory d m (k .shaped) (k .long)) (r .at) x n;
           whole = put-all-length (d .face .buffer) 0 ws ∙ b;
         }
+
     held : e .face .buffer ≡ block
     held = o ∙ ap (λ (s : List ℕ). sectorAt s (x .number)) stored ∙ stored-same room
+
     words : wordsFrom block 0 (length ws) ≡ ws
     words = put-all-words (d .face .buffer) 0 ws (let h : length (d .face .buffer) ≡ 512 = b in let g : length ws ≡ 256 = l in omega arith)
+
     values : valuesRead 256 e (sectorsAfter d m ws) ≡ ws
     values =
         sector-read 256 e (sectorsAfter d m ws) q j u (let h : q .word ≡ 0 = y in omega arith)

@@ -1,6 +1,6 @@
 -- An answer other than 0 comes with value 0 and changes nothing; setup is refused exactly outside the limits.
 use mathlib.Core.Bool.{Bool, true, false}
-use mathlib.Core.Path.{_≡_, refl, sym, ap, _∙_}
+use mathlib.Core.Path.{_≡_, refl, ap, _∙_}
 use mathlib.Core.Logic.{_⊎_, inl, inr}
 use mathlib.Core.List.{List}
 use Prim.Native.Nat.{ℕ}
@@ -32,6 +32,8 @@ use Rattle.device.specs.Alone.{Step, deviceOf, valueOf, outcome, shown, ignored
 use Rattle.device.specs.Host.{shapedOf, memoryLength, stepOf}
 use Rattle.device.specs.Setup.{freshOf, setupRefused, setupOf}
 use Rattle.device.specs.declared.Device.{Device}
+use Rattle.device.specs.declared.Outcome.{Outcome}
+use Rattle.laws.proofs.Reached.{Call, reached, reached-shaped, fresh-shaped}
 
 -- value 0, the same device, the same sectors
 pub record Unchanged (d : Device) (m : List ℕ) (s : Step) : Type 0 where
@@ -152,3 +154,8 @@ setup-unprintable c h s i p e = go (geometryFits (geometryOf c h s)) refl
     go : (b : Bool) → geometryFits (geometryOf c h s) ≡ b → setupOf c h s i p ≡ setupRefused
     go true k = simp (k, e)
     go false k = simp k
+
+-- a disk that setup made is in shape, and so is every state reached from it
+pub from-setup-shaped : (c h s : ℕ) (i : Identity) (p : List ℕ) (cs : List Call) → Limits c h s → identityFits i ≡ true → shapedOf (reached (setupOf c h s i p .device) cs) ≡ true
+from-setup-shaped c h s i p cs l e =
+    reached-shaped _ cs (ap (λ (o : Outcome). shapedOf (o .device)) (setup-within c h s i p l e) ∙ fresh-shaped (geometryOf c h s) i p (limits-fit (geometryOf c h s) l) e)

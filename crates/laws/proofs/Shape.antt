@@ -2,12 +2,11 @@
 use mathlib.Core.Bool.{Bool, true, false, not}
 use mathlib.Core.Path.{_≡_, refl, sym, ap, _∙_}
 use mathlib.Core.List.{List}
-use Prim.Native.Nat.{ℕ, zero, suc, _-_}
+use Prim.Native.Nat.{ℕ, zero, suc}
 use lib.Dec.{eqb, ltb}
 use Rattle.base.specs.Choice.{pick, within}
-use Rattle.base.proofs.Tests.{false≢true, both-true}
-use Rattle.geometry.specs.Geometry.{geometryFits}
-use Rattle.geometry.specs.Translation.{factoryOf, initializedOf, translationAllowed}
+use Rattle.base.proofs.Tests.{false≢true}
+use Rattle.geometry.specs.Translation.{initializedOf, translationAllowed}
 use Rattle.geometry.specs.declared.Translation.{Translation}
 use Rattle.geometry.specs.declared.Initialized.{Initialized}
 use Rattle.geometry.specs.declared.Initialized.the-variants.{To, Aborted}
@@ -16,13 +15,11 @@ use Rattle.address.specs.Successor.{successorOf}
 use Rattle.address.specs.declared.AddressRegisters.{AddressRegisters}
 use Rattle.address.specs.declared.Address.{Address}
 use Rattle.address.specs.declared.Address.the-variants.{Names, Faults}
-use Rattle.lock.specs.Lock.{isOpen, isLocked, isFrozen, exhaustedOf, cannotErase, poweredOn, securityFits}
-use Rattle.lock.specs.Judging.{judgeOf}
+use Rattle.lock.specs.Lock.{isOpen, isLocked, isFrozen, securityFits}
 use Rattle.lock.specs.declared.Lock.{Lock}
 use Rattle.lock.specs.declared.Lock.the-variants.{Open, Locked, Frozen}
 use Rattle.lock.specs.declared.Security.{Security}
 use Rattle.lock.specs.declared.Secrets.{Secrets}
-use Rattle.lock.specs.declared.Judged.{Judged}
 use Rattle.lock.specs.declared.Purpose.{Purpose}
 use Rattle.lock.specs.declared.Purpose.the-variants.{Set, Unlock, Erase, Disable}
 use Rattle.lock.specs.declared.Verdict.{Verdict}
@@ -32,11 +29,10 @@ use Rattle.codes.specs.Commands.{decodeOf}
 use Rattle.codes.specs.MayRun.{notLocked, notFrozen, runsIn, mayRunOf, barredOf}
 use Rattle.codes.specs.declared.Command.{Command}
 use Rattle.codes.specs.declared.Command.the-variants.{Unknown, Recalibrate, ReadSectors, WriteSectors, VerifySectors, Seek, ExecuteDiagnostic, InitializeParameters, ReadBuffer, WriteBuffer, IdentifyDevice, SecuritySetPassword, SecurityUnlock, SecurityErasePrepare, SecurityEraseUnit, SecurityFreezeLock, SecurityDisablePassword}
-use Rattle.settled.specs.Identity.{identityFits}
-use Rattle.settled.specs.Settled.{withTranslation, withSecurity, settledFits, settledPoweredOn, settledReset}
+use Rattle.settled.specs.Settled.{withTranslation, withSecurity, settledFits}
 use Rattle.settled.specs.declared.Settled.{Settled}
 use Rattle.settled.proofs.Clauses.{settled-clauses, clauses-settled}
-use Rattle.face.specs.Face.{withHot, withSettled, withBuffer, withTransfer}
+use Rattle.face.specs.Face.{withHot}
 use Rattle.face.specs.Reads.{isIdle, readRegister}
 use Rattle.face.specs.Writes.{busyOf, storeRegister, putRegister, srstOf, nienOf}
 use Rattle.face.specs.Resets.{dropPurpose, dropAs, droppedOf, poweredOnFace, softResetOf, controlOf}
@@ -49,16 +45,16 @@ use Rattle.face.specs.declared.Hot.{Hot}
 use Rattle.face.specs.declared.Face.{Face}
 use Rattle.face.specs.declared.Action.{Action}
 use Rattle.face.specs.declared.Action.the-variants.{ReadRegister, WriteRegister, ReadWord, WriteWord, HardwareReset, PowerOn, Line}
-use Rattle.transfers.specs.Sectors.{located, firstRun, nextRun, notFoundOf, readAs, readAt, readSectorsOf, writeAs, writeAt, writeSectorsOf, verifyAs, verifyLast, verifyFrom, verifySectorsOf}
+use Rattle.transfers.specs.Sectors.{located, notFoundOf, readAs, readAt, readSectorsOf, writeAs, writeAt, writeSectorsOf, verifyAs, verifyLast, verifyFrom, verifySectorsOf}
 use Rattle.transfers.specs.Words.{readNextOf, readRunOf, readBufferWord, readWordAs, readWordOf, wordIn, wantAs, wantAt, writeNextOf, writeLastAs, writeLastOf, writeRunOf, writeBufferWord}
 use Rattle.commands.specs.Others.{seekAs, seekOf, recalibrateOf, initializeAs, initializeParametersOf, diagnosticOf, identifyDeviceOf, readBufferOf, writeBufferOf, takePasswordOf, erasePrepareOf, freezeLockOf}
 use Rattle.commands.specs.Gate.{begunOf, abortAtOnce, runOf, stationsOf, commandOf}
-use Rattle.disk.specs.Shape.{isNamed, runFits, purposeFits, passwordFits, transferFits, heldFits, diskFits}
+use Rattle.disk.specs.Shape.{isNamed, runFits, purposeFits, passwordFits, transferFits, heldFits}
 use Rattle.transfers.specs.declared.Told.{Told}
 use Rattle.face.specs.declared.Seen.{Seen}
 use Rattle.disk.specs.declared.Acted.{Acted}
-use Rattle.disk.specs.Passwords.{passwordEnded, endedAs, judgementOf, judgedActed, passwordLast, passwordWord}
-use Rattle.disk.proofs.Clauses.{Fits, shape-clauses, clauses-shape}
+use Rattle.disk.specs.Passwords.{passwordEnded, endedAs, judgementOf, passwordLast, passwordWord}
+use Rattle.disk.proofs.Clauses.{Fits}
 use Rattle.disk.specs.Actions.{writeRegisterOf, writeWordAs, writeWordOf, actOf}
 
 -- with other security settings, themselves in shape

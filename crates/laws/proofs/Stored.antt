@@ -1,34 +1,27 @@
 -- Sectors: only a sector's 256th word stores it and only an accepted ERASE UNIT zeroes them; a sector stored is read back word by word.
 use mathlib.Core.Bool.{Bool, true, false}
 use mathlib.Core.Path.{_≡_, refl, sym, ap, _∙_}
-use mathlib.Core.List.{List, [], _∷_}
-use Prim.Native.Nat.{ℕ, suc, _+_, _*_, _≤_, _<_}
-use native.Mathlib.Omega.{arith}
-use native.Mathlib.Numerals.{add-one}
-use lib.Dec.{eqb, ltb}
-use lib.ListN.{length, getD}
+use mathlib.Core.List.{List}
+use Prim.Native.Nat.{ℕ, _≤_, _<_}
+use lib.Dec.{eqb}
+use lib.ListN.{length}
 use borrow.Author.Tests.{eq-eqb, lt-ltb, le-ltb}
-use Rattle.base.specs.Choice.{pick, within}
+use Rattle.base.specs.Choice.{pick}
 use Rattle.base.proofs.Tests.{false≢true}
 use Rattle.address.specs.declared.Address.{Address}
-use Rattle.address.specs.declared.Address.the-variants.{Names, Faults}
+use Rattle.address.specs.declared.Address.the-variants.{Names}
 use Rattle.address.specs.declared.Sector.{Sector}
-use Rattle.block.specs.Words.{wordAt, wordPut}
-use Rattle.block.specs.Sectors.{sectorAt, storedAt}
-use Rattle.block.proofs.WordLaws.{put-length, put-same, put-other}
-use Rattle.block.proofs.SectorLaws.{Room, stored-same, stored-other}
+use Rattle.block.specs.Words.{wordPut}
+use Rattle.block.specs.Sectors.{storedAt}
 use Rattle.lock.specs.declared.Secrets.{Secrets}
-use Rattle.face.specs.Face.{withTransfer, withHot, withBuffer}
 use Rattle.face.specs.declared.Run.{Run}
 use Rattle.face.specs.declared.Face.{Face}
 use Rattle.face.specs.declared.Transfer.{Transfer}
-use Rattle.face.specs.declared.Transfer.the-variants.{Idle, Reading, Writing, ReadingBuffer, WritingBuffer, TakingPassword}
+use Rattle.face.specs.declared.Transfer.the-variants.{Writing}
 use Rattle.face.specs.declared.Action.{Action}
 use Rattle.face.specs.declared.Action.the-variants.{ReadRegister, WriteRegister, ReadWord, WriteWord, HardwareReset, PowerOn, Line}
-use Rattle.transfers.specs.Sectors.{Memory, located}
-use Rattle.transfers.specs.Words.{readRunOf, readWordAs, readWordOf, wordIn, storeAs, writeLastSectors, writeRunOf, writeRunSectors}
-use Rattle.transfers.proofs.Reached.{memory-room}
-use Rattle.disk.specs.Passwords.{passwordLastSectors, passwordWordSectors}
+use Rattle.transfers.specs.Sectors.{located}
+use Rattle.transfers.specs.Words.{wordIn, storeAs, writeLastSectors, writeRunSectors}
 use Rattle.disk.specs.Actions.{writeWordAs, writeWordOf, actOf}
 use Rattle.device.specs.Alone.{Step, ignoredOf, aloneOf}
 use Rattle.device.specs.Host.{shapedOf, memoryLength, stepOf}

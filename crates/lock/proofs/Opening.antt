@@ -1,21 +1,16 @@
 -- What each password block is worth, said of the passwords themselves: the right one opens, erases or disables, a wrong one does not.
 use mathlib.Core.Bool.{Bool, true, false}
-use mathlib.Core.Path.{_≡_, refl, sym, ap, _∙_}
+use mathlib.Core.Path.{_≡_, refl}
 use mathlib.Core.List.{List}
-use Prim.Native.Nat.{ℕ, _-_, _≤_, _<_}
-use native.Mathlib.Omega.{arith}
+use Prim.Native.Nat.{ℕ, _-_, _<_}
 use borrow.Author.Tests.{lt-ltb}
-use lib.Dec.{ltb}
-use Rattle.base.specs.Choice.{pick}
-use Rattle.base.proofs.Tests.{false≢true}
-use Rattle.block.specs.Passwords.{passwordOf, same}
+use Rattle.block.specs.Passwords.{passwordOf}
 use Rattle.block.proofs.Comparing.{same-refl, same-true}
 use Rattle.lock.specs.Lock.{isLocked, openedOf, unpreparedOf, mismatchedOf, enabledAt, disabledOf, withAttempts}
 use Rattle.lock.specs.Passwords.{zeroPassword, withUser, withMaster, masterPicked, maximumAsked, pickedOf, matchesOf}
 use Rattle.lock.specs.Judging.{judged, setOf, masterAtMaximum, unlockLocked, unlockOf, acceptsOf, eraseOf, disableOf, judgeOf}
 use Rattle.lock.specs.declared.Security.{Security}
 use Rattle.lock.specs.declared.Secrets.{Secrets}
-use Rattle.lock.specs.declared.Purpose.{Purpose}
 use Rattle.lock.specs.declared.Purpose.the-variants.{Set, Unlock, Erase, Disable}
 use Rattle.lock.specs.declared.Verdict.the-variants.{EndsWell, Aborts, Erases}
 

@@ -1,18 +1,16 @@
 -- Security settings in shape, said by their bounds; every change to them that a command, a password block or a reset makes keeps them so.
 use mathlib.Core.Bool.{Bool, true, false}
-use mathlib.Core.Path.{_≡_, refl, sym, _∙_}
+use mathlib.Core.Path.{_≡_, refl}
 use mathlib.Core.List.{List}
-use Prim.Native.Nat.{ℕ, _-_, _≤_}
+use Prim.Native.Nat.{ℕ, _≤_}
 use native.Mathlib.Omega.{arith}
 use borrow.Author.Tests.{le-leb, leb-true}
 use lib.Dec.{leb, ltb}
 use Rattle.base.specs.Choice.{pick}
 use Rattle.base.proofs.Tests.{false≢true, both-true}
-use Rattle.lock.specs.Lock.{isLocked, openedOf, frozenOf, preparedOf, unpreparedOf, mismatchedOf, enabledAt, disabledOf, startingLock, poweredOn, securityFits}
-use Rattle.lock.specs.Passwords.{masterPicked, maximumAsked, matchesOf}
+use Rattle.lock.specs.Lock.{isLocked, openedOf, frozenOf, preparedOf, unpreparedOf, mismatchedOf, startingLock, poweredOn, securityFits}
+use Rattle.lock.specs.Passwords.{masterPicked, matchesOf}
 use Rattle.lock.specs.Judging.{setOf, masterAtMaximum, unlockLocked, unlockOf, acceptsOf, eraseOf, disableOf, judgeOf}
-use Rattle.lock.specs.declared.Lock.{Lock}
-use Rattle.lock.specs.declared.Lock.the-variants.{Open, Locked, Frozen}
 use Rattle.lock.specs.declared.Security.{Security}
 use Rattle.lock.specs.declared.Secrets.{Secrets}
 use Rattle.lock.specs.declared.Judged.{Judged}

@@ -7,17 +7,19 @@ use Rattle.lock.specs.declared.Lock.{Lock}
 use Rattle.lock.specs.declared.Lock.the-variants.{Open, Locked, Frozen}
 use Rattle.lock.specs.declared.Security.{Security}
 
--- "three lock states: open, locked, frozen"
+-- "three lock states: open, locked, frozen"; this one is open
 abbrev pub isOpen : Lock → Bool
 isOpen Open = true
 isOpen Locked = false
 isOpen Frozen = false
 
+-- locked
 abbrev pub isLocked : Lock → Bool
 isLocked Open = false
 isLocked Locked = true
 isLocked Frozen = false
 
+-- frozen
 abbrev pub isFrozen : Lock → Bool
 isFrozen Open = false
 isFrozen Locked = false

@@ -247,7 +247,7 @@ impl Secrets {
 }
 
 // Word 0 bit 0: the master password, else the user's.
-pub fn master_picked(block: &[u8; 512]) -> bool
+fn master_picked(block: &[u8; 512]) -> bool
     ensures { λ r. ⌜ r ≡ masterPicked (now (block .entry)) ⌝ }
 {
     block::word_at(block, 0) % 2 == 1
