@@ -122,6 +122,15 @@ def promises_name_every_call(_):
     return complaints + [f'{name} asks something in one of source and PROMISES.md only' for name in required ^ asking]
 
 
+def slips_have_edits(_):
+    """Each of the paper's slips in docs/PROMISES.md names edits that are there."""
+    table = re.search(r"## The paper's slips, tried\n(.*?)\n## ", read('docs/PROMISES.md'), re.S).group(1)
+    rows = [row.split('|')[-2] for row in table.splitlines() if re.match(r'\|.*\|$', row)][2:]
+    edits = [re.findall(r'`(\w+)/(\w+)`', row) for row in rows]
+    missing = [f'{crate}/{label}' for row in edits for crate, label in row if not os.path.exists(f'crates/{crate}/must-fail/{label}.edit')]
+    return [f'{name} is no edit' for name in missing] + [f'no edit for{row}' for row, found in zip(rows, edits) if not found]
+
+
 def rules_name_every_definition(_):
     """docs/RULES.md names each definition of specs/, and nothing else in its last column."""
     there = {name for path in glob.glob('crates/*/specs/*.antt') for name in tree.public_names(path)}
@@ -137,7 +146,7 @@ def laws_that_are_named_exist(_):
 
 
 CHECKS = [crates_are_listed, layout_is_kept, functions_are_short, crates_check_quickly, proofs_have_recipes,
-          imports_are_used, edits_reach_a_proof, promises_name_every_call, rules_name_every_definition, laws_that_are_named_exist]
+          imports_are_used, edits_reach_a_proof, promises_name_every_call, slips_have_edits, rules_name_every_definition, laws_that_are_named_exist]
 
 
 def main():

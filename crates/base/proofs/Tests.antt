@@ -13,6 +13,16 @@ picked-true b x a y h e = rw h e
 pub picked-false {ℓ} : {A : Type ℓ} (b : Bool) (x a y : A) → b ≡ false → x ≡ y → x ≡ pick b a y
 picked-false b x a y h e = rw h e
 
+-- what holds of both sides of a choice holds of the choice
+pub pick-both {ℓ k} : {A : Type ℓ} (P : A → Type k) (b : Bool) (x y : A) → P x → P y → P (pick b x y)
+pick-both P true x y p q = p
+pick-both P false x y p q = q
+
+-- the same, where each side is handed its test
+pub pick-each {ℓ k} : {A : Type ℓ} (P : A → Type k) (b : Bool) (x y : A) → (b ≡ true → P x) → (b ≡ false → P y) → P (pick b x y)
+pick-each P true x y p q = p refl
+pick-each P false x y p q = q refl
+
 -- a test that a call answered
 pub told-true : (b r : Bool) → r ≡ b → r ≡ true → b ≡ true
 told-true b r e h = sym e ∙ h

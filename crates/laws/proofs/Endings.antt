@@ -1,5 +1,4 @@
 -- A transfer ends within 65,536 data words: each word that is taken leaves fewer, and no command opens one with more.
-use mathlib.Core.Bool.{Bool, true, false}
 use mathlib.Core.Path.{_≡_, refl}
 use mathlib.Core.List.{List, [], _∷_}
 use lib.ListN.{length}
@@ -7,8 +6,7 @@ use Prim.Native.Nat.{ℕ, _+_, _-_, _*_, _≤_, _<_}
 use native.Mathlib.Omega.{arith}
 use lib.Dec.{ltb}
 use borrow.Author.Tests.{ltb-true}
-use Rattle.base.specs.Choice.{pick}
-use Rattle.base.proofs.Tests.{zero≢one}
+use Rattle.base.proofs.Tests.{zero≢one, pick-each}
 use Rattle.address.specs.declared.Address.{Address}
 use Rattle.address.specs.declared.Address.the-variants.{Names, Faults}
 use Rattle.lock.specs.declared.Secrets.{Secrets}
@@ -61,10 +59,6 @@ record Fewer (n : ℕ) (f : Face) : Type 0 where
   less : wordsLeft (f .hot .transfer) < n
   bytes : Bytes (f .hot .transfer)
 
-pick-fewer : {n : ℕ} (b : Bool) (f g : Face) → (b ≡ true → Fewer n f) → (b ≡ false → Fewer n g) → Fewer n (pick b f g)
-pick-fewer true f g p q = p refl
-pick-fewer false f g p q = q refl
-
 read-fewer : (n : ℕ) (f : Face) (m : List ℕ) (r : Run) (a : Address) → r .word ≡ 0 → r .after < 256 → 256 * r .after + 256 < n → Fewer n (readAs f m r a)
 unfolding notFoundOf
 read-fewer n f m r (Names x) e h l = record { less = let w : r .word ≡ 0 = e in omega arith; bytes = (h, let w : r .word ≡ 0 = e in omega arith) }
@@ -90,9 +84,9 @@ none-less after word p = omega arith
 read-run-fewer : (f : Face) (m : List ℕ) (r : Run) → r .after < 256 → r .word < 256 → Fewer (256 * r .after + (256 - r .word)) (readRunOf f m r)
 unfolding readRunOf readNextOf readAt
 read-run-fewer f m r p q =
-    pick-fewer (ltb (r .word) 255) _ _
+    pick-each (Fewer _) (ltb (r .word) 255) _ _
     (λ e. let h = word-less (r .after) (r .word) p (ltb-true _ _ e) in record { less = h .0; bytes = (p, h .1) })
-    (λ e. pick-fewer (ltb 0 (r .after)) _ _
+    (λ e. pick-each (Fewer _) (ltb 0 (r .after)) _ _
     (λ z. let h = next-less (r .after) (r .word) (ltb-true _ _ z) p q in
     read-fewer _ f m (nextRun r (f .settled .translation)) (located (f .settled) (nextRun r (f .settled .translation) .at)) refl (h .1) (h .0))
     (λ z. record { less = none-less (r .after) (r .word) q; bytes = tt }))
@@ -100,7 +94,7 @@ read-run-fewer f m r p q =
 write-next-fewer : (f : Face) (r : Run) → r .after < 256 → r .word < 256 → Fewer (256 * r .after + (256 - r .word)) (writeNextOf f r)
 unfolding writeNextOf wantAt
 write-next-fewer f r p q =
-    pick-fewer (ltb 0 (r .after)) _ _
+    pick-each (Fewer _) (ltb 0 (r .after)) _ _
     (λ z. let h = next-less (r .after) (r .word) (ltb-true _ _ z) p q in
     want-fewer _ f (nextRun r (f .settled .translation)) (located (f .settled) (nextRun r (f .settled .translation) .at)) refl (h .1) (h .0))
     (λ z. record { less = none-less (r .after) (r .word) q; bytes = tt })
@@ -113,7 +107,7 @@ write-last-fewer f r Faults p q = record { less = none-less (r .after) (r .word)
 write-run-fewer : (f : Face) (r : Run) (w : ℕ) → r .after < 256 → r .word < 256 → Fewer (256 * r .after + (256 - r .word)) (writeRunOf f r w)
 unfolding writeRunOf writeLastOf
 write-run-fewer f r w p q =
-    pick-fewer (ltb (r .word) 255) _ _
+    pick-each (Fewer _) (ltb (r .word) 255) _ _
     (λ e. let h = word-less (r .after) (r .word) p (ltb-true _ _ e) in record { less = h .0; bytes = (p, h .1) })
     (λ e. write-last-fewer (wordIn f (r .word) w) r (located (f .settled) (r .at)) p q)
 
@@ -127,16 +121,12 @@ block-none n h = omega arith
 read-buffer-fewer : (f : Face) (n : ℕ) → n < 256 → Fewer (256 - n) (readBufferWord f n)
 unfolding readBufferWord
 read-buffer-fewer f n q =
-    pick-fewer (ltb n 255) _ _ (λ e. let h = block-less n (ltb-true _ _ e) in record { less = h .0; bytes = h .1 }) (λ e. record { less = block-none n q; bytes = tt })
+    pick-each (Fewer _) (ltb n 255) _ _ (λ e. let h = block-less n (ltb-true _ _ e) in record { less = h .0; bytes = h .1 }) (λ e. record { less = block-none n q; bytes = tt })
 
 write-buffer-fewer : (f : Face) (n w : ℕ) → n < 256 → Fewer (256 - n) (writeBufferWord f n w)
 unfolding writeBufferWord
 write-buffer-fewer f n w q =
-    pick-fewer (ltb n 255) _ _ (λ e. let h = block-less n (ltb-true _ _ e) in record { less = h .0; bytes = h .1 }) (λ e. record { less = block-none n q; bytes = tt })
-
-pick-acted-fewer : {n : ℕ} (b : Bool) (x y : Acted) → (b ≡ true → Fewer n (x .face)) → (b ≡ false → Fewer n (y .face)) → Fewer n (pick b x y .face)
-pick-acted-fewer true x y p q = p refl
-pick-acted-fewer false x y p q = q refl
+    pick-each (Fewer _) (ltb n 255) _ _ (λ e. let h = block-less n (ltb-true _ _ e) in record { less = h .0; bytes = h .1 }) (λ e. record { less = block-none n q; bytes = tt })
 
 ended-fewer : (n : ℕ) (f : Face) (v : Verdict) → 0 < n → Fewer n (endedAs f v)
 ended-fewer n f EndsWell h = record { less = h; bytes = tt }
@@ -150,7 +140,7 @@ password-last-fewer n f x p h = ended-fewer n (passwordEnded f (judgementOf f x 
 password-fewer : (f : Face) (x : Secrets) (b : PasswordBlock) (w : ℕ) → b .word < 256 → Fewer (256 - b .word) (passwordWord f x b w .face)
 unfolding passwordWord
 password-fewer f x b w q =
-    pick-acted-fewer (ltb (b .word) 255) _ _ (λ e. let h = block-less (b .word) (ltb-true _ _ e) in record { less = h .0; bytes = h .1 })
+    pick-each (λ (a : Acted). Fewer (256 - b .word) (a .face)) (ltb (b .word) 255) _ _ (λ e. let h = block-less (b .word) (ltb-true _ _ e) in record { less = h .0; bytes = h .1 })
     (λ e. password-last-fewer _ (wordIn f (b .word) w) x (b .purpose) (block-none (b .word) q))
 
 -- a word that is turned away is no word taken

@@ -8,7 +8,7 @@ use lib.Dec.{eqb, ltb}
 use lib.ListN.{length}
 use borrow.Author.Tests.{eqb-true}
 use Rattle.base.specs.Choice.{pick, within}
-use Rattle.base.proofs.Tests.{false≢true}
+use Rattle.base.proofs.Tests.{false≢true, pick-both, pick-each}
 use Rattle.geometry.specs.Geometry.{geometryFits}
 use Rattle.geometry.specs.declared.Geometry.{Geometry}
 use Rattle.geometry.specs.Translation.{initializedOf}
@@ -73,10 +73,6 @@ idle e = record { is = inl e }
 
 stays : {at : AddressRegisters} {f : Face} → f .hot .regs .at ≡ at → Placed at f
 stays e = record { is = inr e }
-
-pick-placed : {at : AddressRegisters} (b : Bool) (f g : Face) → Placed at (f) → Placed at (g) → Placed at (pick b f g)
-pick-placed true f g p q = p
-pick-placed false f g p q = q
 
 read-placed : (f : Face) (m : List ℕ) (r : Run) (a : Address) → Placed (f .hot .regs .at) (readAs f m r a)
 unfolding notFoundOf
@@ -145,13 +141,13 @@ run-placed f m SecurityDisablePassword = stays refl
 
 abort-placed : (f : Face) (code : ℕ) → Placed (f .hot .regs .at) (abortAtOnce f code)
 unfolding abortAtOnce
-abort-placed f code = pick-placed (eqb code 0xF4) _ _ (idle refl) (idle refl)
+abort-placed f code = pick-both (Placed (f .hot .regs .at)) (eqb code 0xF4) _ _ (idle refl) (idle refl)
 
 stations-placed : (f : Face) (m : List ℕ) (code : ℕ) → Placed (f .hot .regs .at) (stationsOf f m code)
 unfolding stationsOf
 stations-placed f m code =
-    pick-placed (mayRunOf code (f .settled .security .lock)) _ _
-    (pick-placed (barredOf (decodeOf code) (f .settled .security)) _ _ (abort-placed f code) (run-placed f m (decodeOf code)))
+    pick-both (Placed (f .hot .regs .at)) (mayRunOf code (f .settled .security .lock)) _ _
+    (pick-both (Placed (f .hot .regs .at)) (barredOf (decodeOf code) (f .settled .security)) _ _ (abort-placed f code) (run-placed f m (decodeOf code)))
     (abort-placed f code)
 
 drop-purpose-at : (f : Face) (p : Purpose) → dropPurpose f p .hot .regs .at ≡ f .hot .regs .at
@@ -171,7 +167,7 @@ drop-at f (TakingPassword b) = drop-purpose-at _ (b .purpose)
 command-placed : (f : Face) (m : List ℕ) (code : ℕ) → Placed (f .hot .regs .at) (commandOf f m code)
 unfolding commandOf begunOf droppedOf
 command-placed f m code =
-    pick-placed (f .hot .signals .held) _ _ (stays refl) (go (stations-placed (begunOf f) m code))
+    pick-both (Placed (f .hot .regs .at)) (f .hot .signals .held) _ _ (stays refl) (go (stations-placed (begunOf f) m code))
   where
     go : Placed (begunOf f .hot .regs .at) (stationsOf (begunOf f) m code) → Placed (f .hot .regs .at) (stationsOf (begunOf f) m code)
     go p = moved (p .is)
@@ -184,15 +180,15 @@ read-word-placed : (f : Face) (m : List ℕ) (t : Transfer) → Placed (f .hot .
 unfolding readRunOf readNextOf readBufferWord
 read-word-placed f m Idle = stays refl
 read-word-placed f m (Reading r) =
-    pick-placed (ltb (r .word) 255) _ _ (stays refl) (pick-placed (ltb 0 (r .after)) _ _ (read-at-placed f m (nextRun r (f .settled .translation))) (idle refl))
+    pick-both (Placed (f .hot .regs .at)) (ltb (r .word) 255) _ _ (stays refl) (pick-both (Placed (f .hot .regs .at)) (ltb 0 (r .after)) _ _ (read-at-placed f m (nextRun r (f .settled .translation))) (idle refl))
 read-word-placed f m (Writing r) = stays refl
-read-word-placed f m (ReadingBuffer n) = pick-placed (ltb n 255) _ _ (stays refl) (idle refl)
+read-word-placed f m (ReadingBuffer n) = pick-both (Placed (f .hot .regs .at)) (ltb n 255) _ _ (stays refl) (idle refl)
 read-word-placed f m (WritingBuffer n) = stays refl
 read-word-placed f m (TakingPassword b) = stays refl
 
 write-last-placed : (f : Face) (r : Run) (a : Address) → Placed (f .hot .regs .at) (writeLastAs f r a)
 unfolding writeNextOf notFoundOf
-write-last-placed f r (Names x) = pick-placed (ltb 0 (r .after)) _ _ (want-at-placed f (nextRun r (f .settled .translation))) (idle refl)
+write-last-placed f r (Names x) = pick-both (Placed (f .hot .regs .at)) (ltb 0 (r .after)) _ _ (want-at-placed f (nextRun r (f .settled .translation))) (idle refl)
 write-last-placed f r Faults = idle refl
 
 ended-idle : (f : Face) (v : Verdict) → isIdle (endedAs f v .hot .transfer) ≡ true
@@ -204,18 +200,14 @@ password-idle : (f : Face) (x : Secrets) (p : Purpose) → isIdle (passwordLast 
 unfolding passwordLast
 password-idle f x p = ended-idle (passwordEnded f (judgementOf f x p .security)) (judgementOf f x p .verdict)
 
-pick-acted-placed : {at : AddressRegisters} (b : Bool) (x y : Acted) → Placed at (x .face) → Placed at (y .face) → Placed at (pick b x y .face)
-pick-acted-placed true x y p q = p
-pick-acted-placed false x y p q = q
-
 write-word-placed : (f : Face) (x : Secrets) (m : List ℕ) (w : ℕ) (t : Transfer) → Placed (f .hot .regs .at) (writeWordAs f x m w t .acted .face)
 unfolding writeRunOf writeLastOf writeBufferWord passwordWord
 write-word-placed f x m w Idle = stays refl
 write-word-placed f x m w (Reading r) = stays refl
-write-word-placed f x m w (Writing r) = pick-placed (ltb (r .word) 255) _ _ (stays refl) (write-last-placed (wordIn f (r .word) w) r (located (f .settled) (r .at)))
+write-word-placed f x m w (Writing r) = pick-both (Placed (f .hot .regs .at)) (ltb (r .word) 255) _ _ (stays refl) (write-last-placed (wordIn f (r .word) w) r (located (f .settled) (r .at)))
 write-word-placed f x m w (ReadingBuffer n) = stays refl
-write-word-placed f x m w (WritingBuffer n) = pick-placed (ltb n 255) _ _ (stays refl) (idle refl)
-write-word-placed f x m w (TakingPassword b) = pick-acted-placed (ltb (b .word) 255) _ _ (stays refl) (idle (password-idle (wordIn f (b .word) w) x (b .purpose)))
+write-word-placed f x m w (WritingBuffer n) = pick-both (Placed (f .hot .regs .at)) (ltb n 255) _ _ (stays refl) (idle refl)
+write-word-placed f x m w (TakingPassword b) = pick-both (λ (a : Acted). Placed (f .hot .regs .at) (a .face)) (ltb (b .word) 255) _ _ (stays refl) (idle (password-idle (wordIn f (b .word) w) x (b .purpose)))
 
 -- ---- DEV's clauses
 
@@ -277,16 +269,11 @@ write-word-alone f x m w (ReadingBuffer n) e k a = a
 write-word-alone f x m w (WritingBuffer n) e k a = placed-alone (f .hot) _ (open-clear (f .hot) a (ap isIdle e)) (write-word-held f x m w (WritingBuffer n) e k refl) (write-word-placed f x m w (WritingBuffer n))
 write-word-alone f x m w (TakingPassword b) e k a = placed-alone (f .hot) _ (open-clear (f .hot) a (ap isIdle e)) (write-word-held f x m w (TakingPassword b) e k refl) (write-word-placed f x m w (TakingPassword b))
 
--- reads change neither address nor transfer nor reset
-pick-seen-alone : (b : Bool) (x y : Seen) → aloneFits (x .hot) ≡ true → aloneFits (y .hot) ≡ true → aloneFits (pick b x y .hot) ≡ true
-pick-seen-alone true x y p q = p
-pick-seen-alone false x y p q = q
-
 read-alone : (h : Hot) (n : ℕ) → aloneFits h ≡ true → aloneFits (readRegister h n .hot) ≡ true
 unfolding readRegister aloneFits devSet
 read-alone h n a =
-    pick-seen-alone (eqb n 1) _ _ a (pick-seen-alone (eqb n 2) _ _ a (pick-seen-alone (eqb n 3) _ _ a (pick-seen-alone (eqb n 4) _ _ a
-    (pick-seen-alone (eqb n 5) _ _ a (pick-seen-alone (eqb n 6) _ _ a (pick-seen-alone (eqb n 7) _ _ a (pick-seen-alone (eqb n 8) _ _ a a)))))))
+    pick-both (λ (s : Seen). aloneFits (s .hot) ≡ true) (eqb n 1) _ _ a (pick-both (λ (s : Seen). aloneFits (s .hot) ≡ true) (eqb n 2) _ _ a (pick-both (λ (s : Seen). aloneFits (s .hot) ≡ true) (eqb n 3) _ _ a (pick-both (λ (s : Seen). aloneFits (s .hot) ≡ true) (eqb n 4) _ _ a
+    (pick-both (λ (s : Seen). aloneFits (s .hot) ≡ true) (eqb n 5) _ _ a (pick-both (λ (s : Seen). aloneFits (s .hot) ≡ true) (eqb n 6) _ _ a (pick-both (λ (s : Seen). aloneFits (s .hot) ≡ true) (eqb n 7) _ _ a (pick-both (λ (s : Seen). aloneFits (s .hot) ≡ true) (eqb n 8) _ _ a a)))))))
 
 -- a register is stored only where nothing is open or held
 busy-not : (held idle : Bool) → pick held true (pick idle false true) ≡ false → (held ≡ false) × (idle ≡ true)
@@ -298,12 +285,10 @@ stored-idle : (h : Hot) (n v : ℕ) → h .signals .held ≡ false → isIdle (h
     → (storeRegister h n v .signals .held ≡ false) × (isIdle (storeRegister h n v .transfer) ≡ true)
 unfolding storeRegister
 stored-idle h n v e i =
-    go (eqb n 1) _ _ (e, i) (go (eqb n 2) _ _ (e, i) (go (eqb n 3) _ _ (e, i) (go (eqb n 4) _ _ (e, i) (go (eqb n 5) _ _ (e, i) (e, i)))))
+    pick-both P (eqb n 1) _ _ (e, i) (pick-both P (eqb n 2) _ _ (e, i) (pick-both P (eqb n 3) _ _ (e, i) (pick-both P (eqb n 4) _ _ (e, i) (pick-both P (eqb n 5) _ _ (e, i) (e, i)))))
   where
-    go : (b : Bool) (x y : Hot) → (x .signals .held ≡ false) × (isIdle (x .transfer) ≡ true) → (y .signals .held ≡ false) × (isIdle (y .transfer) ≡ true)
-        → (pick b x y .signals .held ≡ false) × (isIdle (pick b x y .transfer) ≡ true)
-    go true x y p q = p
-    go false x y p q = q
+    P : Hot → Type 0
+    P x = (x .signals .held ≡ false) × (isIdle (x .transfer) ≡ true)
 
 put-alone : (h : Hot) (n v : ℕ) → aloneFits h ≡ true → aloneFits (putRegister h n v) ≡ true
 unfolding putRegister busyOf
@@ -316,13 +301,9 @@ put-alone h n v a = go (pick (h .signals .held) true (pick (isIdle (h .transfer)
         let s = stored-idle h n v (q .0) (q .1) in
         idle-alone _ (s .1) (s .0)
 
-pick-face-alone : (b : Bool) (f g : Face) → aloneFits (f .hot) ≡ true → aloneFits (g .hot) ≡ true → aloneFits (pick b f g .hot) ≡ true
-pick-face-alone true f g p q = p
-pick-face-alone false f g p q = q
-
 control-alone : (f : Face) (v : ℕ) → aloneFits (f .hot) ≡ true → aloneFits (controlOf f v .hot) ≡ true
 unfolding controlOf aloneFits devSet
-control-alone f v a = pick-face-alone (srstOf v) _ _ refl (go (alone-clauses (f .hot) a))
+control-alone f v a = pick-both (λ (g : Face). aloneFits (g .hot) ≡ true) (srstOf v) _ _ refl (go (alone-clauses (f .hot) a))
   where
     go : (devSet (f .hot) ≡ false) ⊎ ((f .hot .signals .held ≡ false) × (isIdle (f .hot .transfer) ≡ true)) → pick (eqb (f .hot .regs .at .head / 16 % 2) 1) (isIdle (f .hot .transfer)) true ≡ true
     go (inl c) = rw c
@@ -356,17 +337,13 @@ answered-cases true true dev e s = inr refl
 answered-cases true false dev e s = inl e
 answered-cases false ninety dev e s = absurd (false≢true s)
 
-pick-told-alone : (b : Bool) (x y : Told) → (b ≡ true → aloneFits (x .face .hot) ≡ true) → (b ≡ false → aloneFits (y .face .hot) ≡ true) → aloneFits (pick b x y .face .hot) ≡ true
-pick-told-alone true x y p q = p refl
-pick-told-alone false x y p q = q refl
-
 write-register-alone : (f : Face) (m : List ℕ) (n v : ℕ) → Fits f → aloneFits (f .hot) ≡ true → ignoredOf (f .hot) (WriteRegister n v) ≡ false
     → aloneFits (writeRegisterOf f m n v .face .hot) ≡ true
 unfolding writeRegisterOf ignoredOf
 write-register-alone f m n v k a i =
-    pick-told-alone (within 1 6 n) _ _ (λ w. put-alone (f .hot) n v a)
-    (λ w. pick-told-alone (eqb n 7) _ _ (λ e. command-alone f m v k a (named (answered-cases (eqb n 7) (eqb v 0x90) (devSet (f .hot)) i e)))
-    (λ e. pick-told-alone (eqb n 8) _ _ (λ z. control-alone f v a) (λ z. a)))
+    pick-each (λ (t : Told). aloneFits (t .face .hot) ≡ true) (within 1 6 n) _ _ (λ w. put-alone (f .hot) n v a)
+    (λ w. pick-each (λ (t : Told). aloneFits (t .face .hot) ≡ true) (eqb n 7) _ _ (λ e. command-alone f m v k a (named (answered-cases (eqb n 7) (eqb v 0x90) (devSet (f .hot)) i e)))
+    (λ e. pick-each (λ (t : Told). aloneFits (t .face .hot) ≡ true) (eqb n 8) _ _ (λ z. control-alone f v a) (λ z. a)))
   where
     named : (devSet (f .hot) ≡ false) ⊎ (eqb v 0x90 ≡ true) → (devSet (f .hot) ≡ false) ⊎ (v ≡ 0x90)
     named (inl d) = inl d

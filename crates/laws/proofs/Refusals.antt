@@ -6,7 +6,8 @@ use mathlib.Core.List.{List}
 use Prim.Native.Nat.{ℕ}
 use lib.Dec.{eqb, ltb}
 use lib.ListN.{length}
-use Rattle.base.specs.Choice.{pick, within}
+use Rattle.base.proofs.Tests.{pick-both}
+use Rattle.base.specs.Choice.{within}
 use Rattle.geometry.specs.Geometry.{geometryFits, geometryOf, checkedOf}
 use Rattle.geometry.proofs.Limits.{Limits, fits-limits, limits-fit}
 use Rattle.lock.specs.declared.Secrets.{Secrets}
@@ -44,22 +45,18 @@ pub record Unchanged (d : Device) (m : List ℕ) (s : Step) : Type 0 where
 read-answer : (h : Hot) (n : ℕ) → (readRegister h n .answer ≡ Done) ⊎ (readRegister h n ≡ seen h NoRegister 0)
 unfolding readRegister
 read-answer h n =
-    go (eqb n 1) _ _ (inl refl) (go (eqb n 2) _ _ (inl refl) (go (eqb n 3) _ _ (inl refl) (go (eqb n 4) _ _ (inl refl)
-    (go (eqb n 5) _ _ (inl refl) (go (eqb n 6) _ _ (inl refl) (go (eqb n 7) _ _ (inl refl) (go (eqb n 8) _ _ (inl refl) (inr refl))))))))
+    pick-both P (eqb n 1) _ _ (inl refl) (pick-both P (eqb n 2) _ _ (inl refl) (pick-both P (eqb n 3) _ _ (inl refl) (pick-both P (eqb n 4) _ _ (inl refl)
+    (pick-both P (eqb n 5) _ _ (inl refl) (pick-both P (eqb n 6) _ _ (inl refl) (pick-both P (eqb n 7) _ _ (inl refl) (pick-both P (eqb n 8) _ _ (inl refl) (inr refl))))))))
   where
-    go : (b : Bool) (x y : Seen) → (x .answer ≡ Done) ⊎ (x ≡ seen h NoRegister 0) → (y .answer ≡ Done) ⊎ (y ≡ seen h NoRegister 0)
-        → (pick b x y .answer ≡ Done) ⊎ (pick b x y ≡ seen h NoRegister 0)
-    go true x y p q = p
-    go false x y p q = q
+    P : Seen → Type 0
+    P s = (s .answer ≡ Done) ⊎ (s ≡ seen h NoRegister 0)
 
 write-answer : (f : Face) (m : List ℕ) (n v : ℕ) → (writeRegisterOf f m n v .answer ≡ Done) ⊎ (writeRegisterOf f m n v ≡ told f NoRegister 0)
 unfolding writeRegisterOf
-write-answer f m n v = go (within 1 6 n) _ _ (inl refl) (go (eqb n 7) _ _ (inl refl) (go (eqb n 8) _ _ (inl refl) (inr refl)))
+write-answer f m n v = pick-both P (within 1 6 n) _ _ (inl refl) (pick-both P (eqb n 7) _ _ (inl refl) (pick-both P (eqb n 8) _ _ (inl refl) (inr refl)))
   where
-    go : (b : Bool) (x y : Told) → (x .answer ≡ Done) ⊎ (x ≡ told f NoRegister 0) → (y .answer ≡ Done) ⊎ (y ≡ told f NoRegister 0)
-        → (pick b x y .answer ≡ Done) ⊎ (pick b x y ≡ told f NoRegister 0)
-    go true x y p q = p
-    go false x y p q = q
+    P : Told → Type 0
+    P t = (t .answer ≡ Done) ⊎ (t ≡ told f NoRegister 0)
 
 read-word-answer : (f : Face) (m : List ℕ) (t : Transfer) → (readWordAs f m t .answer ≡ Done) ⊎ (readWordAs f m t ≡ noTransfer f)
 read-word-answer f m Idle = inr refl
@@ -69,10 +66,6 @@ read-word-answer f m (ReadingBuffer n) = inl refl
 read-word-answer f m (WritingBuffer n) = inr refl
 read-word-answer f m (TakingPassword b) = inr refl
 
-pick-done : (b : Bool) (x y : Acted) → x .answer ≡ Done → y .answer ≡ Done → pick b x y .answer ≡ Done
-pick-done true x y p q = p
-pick-done false x y p q = q
-
 write-word-answer : (f : Face) (x : Secrets) (m : List ℕ) (w : ℕ) (t : Transfer) → (writeWordAs f x m w t .acted .answer ≡ Done) ⊎ (writeWordAs f x m w t ≡ wordRefused f x m)
 unfolding passwordWord passwordLast
 write-word-answer f x m w Idle = inr refl
@@ -80,7 +73,7 @@ write-word-answer f x m w (Reading r) = inr refl
 write-word-answer f x m w (Writing r) = inl refl
 write-word-answer f x m w (ReadingBuffer n) = inr refl
 write-word-answer f x m w (WritingBuffer n) = inl refl
-write-word-answer f x m w (TakingPassword b) = inl (pick-done (ltb (b .word) 255) _ _ refl refl)
+write-word-answer f x m w (TakingPassword b) = inl (pick-both (λ (a : Acted). a .answer ≡ Done) (ltb (b .word) 255) _ _ refl refl)
 
 -- an action on a disk, seen from the device
 abbrev Honest : Device → List ℕ → Step → Type 0
@@ -123,14 +116,15 @@ act-honest d m Line = inl refl
 pub step-honest : (d : Device) (m : List ℕ) (a : Action) → (stepOf d m a .outcome .number ≡ 0) ⊎ Unchanged d m (stepOf d m a)
 unfolding stepOf aloneOf
 step-honest d m a =
-    go (shapedOf d) _ _ (go (eqb (length m) (memoryLength d)) _ _ (go (ignoredOf (d .face .hot) a) _ _ (inl refl) (act-honest d m a)) (still WrongLength refl)) (still OutOfShape refl)
+    pick-both P (shapedOf d) _ _
+    (pick-both P (eqb (length m) (memoryLength d)) _ _ (pick-both P (ignoredOf (d .face .hot) a) _ _ (inl refl) (act-honest d m a)) (still WrongLength refl))
+    (still OutOfShape refl)
   where
     still : (x : Answer) → valueOf x 0 ≡ 0 → Honest d m (shown d m x 0)
     still x e = inr record { value = e; device = refl; sectors = refl }
 
-    go : (b : Bool) (s t : Step) → Honest d m s → Honest d m t → Honest d m (pick b s t)
-    go true s t p q = p
-    go false s t p q = q
+    P : Step → Type 0
+    P s = Honest d m s
 
 -- setup makes just the disk asked for, where counts and identity are within the limits
 pub setup-within : (c h s : ℕ) (i : Identity) (p : List ℕ) → Limits c h s → identityFits i ≡ true → setupOf c h s i p ≡ outcome (freshOf (geometryOf c h s) i p) Done 0

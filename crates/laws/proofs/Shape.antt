@@ -5,7 +5,7 @@ use mathlib.Core.List.{List}
 use Prim.Native.Nat.{ℕ, zero, suc}
 use lib.Dec.{eqb, ltb}
 use Rattle.base.specs.Choice.{pick, within}
-use Rattle.base.proofs.Tests.{false≢true}
+use Rattle.base.proofs.Tests.{false≢true, pick-both, pick-each}
 use Rattle.geometry.specs.Translation.{initializedOf, translationAllowed}
 use Rattle.geometry.specs.declared.Translation.{Translation}
 use Rattle.geometry.specs.declared.Initialized.{Initialized}
@@ -78,15 +78,6 @@ pub record Free (f : Face) : Type 0 where
 free-fits : (f : Face) → Free f → Fits f
 unfolding heldFits
 free-fits f k = record { sound = k .sound; held = rw (k .free); fits = k .fits }
-
--- a choice hands each side its test
-pick-free : (b : Bool) (f g : Face) → (b ≡ true → Free f) → (b ≡ false → Free g) → Free (pick b f g)
-pick-free true f g p q = p refl
-pick-free false f g p q = q refl
-
-pick-fits : (b : Bool) (f g : Face) → (b ≡ true → Fits f) → (b ≡ false → Fits g) → Fits (pick b f g)
-pick-fits true f g p q = p refl
-pick-fits false f g p q = q refl
 
 -- ---- sectors reached
 
@@ -195,14 +186,14 @@ unprepared-kept s e = security-kept s _ e (sound-fits _ (unprepare-sound _ (fits
 abort-free : (f : Face) (code : ℕ) → settledFits (f .settled) ≡ true → f .hot .signals .held ≡ false → Free (abortAtOnce f code)
 unfolding abortAtOnce
 abort-free f code s h =
-    pick-free (eqb code 0xF4) _ _ (λ e. record { sound = unprepared-kept (f .settled) s; free = h; fits = refl })
+    pick-each Free (eqb code 0xF4) _ _ (λ e. record { sound = unprepared-kept (f .settled) s; free = h; fits = refl })
     (λ e. record { sound = s; free = h; fits = refl })
 
 stations-free : (f : Face) (m : List ℕ) (code : ℕ) → settledFits (f .settled) ≡ true → f .hot .signals .held ≡ false → Free (stationsOf f m code)
 unfolding stationsOf mayRunOf
 stations-free f m code s h =
-    pick-free (runsIn (decodeOf code) (f .settled .security .lock)) _ _
-    (λ r. pick-free (barredOf (decodeOf code) (f .settled .security)) _ _ (λ b. abort-free f code s h) (λ b. command-free f m (decodeOf code) s h r b))
+    pick-each Free (runsIn (decodeOf code) (f .settled .security .lock)) _ _
+    (λ r. pick-each Free (barredOf (decodeOf code) (f .settled .security)) _ _ (λ b. abort-free f code s h) (λ b. command-free f m (decodeOf code) s h r b))
     (λ r. abort-free f code s h)
 
 drop-purpose-sound : (f : Face) (p : Purpose) → settledFits (f .settled) ≡ true → settledFits (dropPurpose f p .settled) ≡ true
@@ -240,7 +231,7 @@ begun-free f m code k h =
 
 command-fits : (f : Face) (m : List ℕ) (code : ℕ) → Fits f → Fits (commandOf f m code)
 unfolding commandOf
-command-fits f m code k = pick-fits (f .hot .signals .held) _ _ (λ h. k) (λ h. free-fits _ (begun-free f m code k h))
+command-fits f m code k = pick-each Fits (f .hot .signals .held) _ _ (λ h. k) (λ h. free-fits _ (begun-free f m code k h))
 
 -- a command leaves a reset that is not held so
 pub command-held : (f : Face) (m : List ℕ) (code : ℕ) → Fits f → f .hot .signals .held ≡ false → commandOf f m code .hot .signals .held ≡ false
@@ -274,12 +265,12 @@ run-unlocked s r e = guard (isLocked (s .security .lock)) (isNamed (located s (r
 read-run-free : (f : Face) (m : List ℕ) (r : Run) → settledFits (f .settled) ≡ true → f .hot .signals .held ≡ false → runFits (f .settled) r ≡ true → Free (readRunOf f m r)
 unfolding readRunOf readNextOf runFits
 read-run-free f m r s h e =
-    pick-free (ltb (r .word) 255) _ _ (λ q. record { sound = s; free = h; fits = e })
-    (λ q. pick-free (ltb 0 (r .after)) _ _ (λ z. read-at-free f m _ s h (run-unlocked (f .settled) r e)) (λ z. record { sound = s; free = h; fits = refl }))
+    pick-each Free (ltb (r .word) 255) _ _ (λ q. record { sound = s; free = h; fits = e })
+    (λ q. pick-each Free (ltb 0 (r .after)) _ _ (λ z. read-at-free f m _ s h (run-unlocked (f .settled) r e)) (λ z. record { sound = s; free = h; fits = refl }))
 
 read-buffer-free : (f : Face) (n : ℕ) → settledFits (f .settled) ≡ true → f .hot .signals .held ≡ false → Free (readBufferWord f n)
 unfolding readBufferWord
-read-buffer-free f n s h = pick-free (ltb n 255) _ _ (λ q. record { sound = s; free = h; fits = refl }) (λ q. record { sound = s; free = h; fits = refl })
+read-buffer-free f n s h = pick-each Free (ltb n 255) _ _ (λ q. record { sound = s; free = h; fits = refl }) (λ q. record { sound = s; free = h; fits = refl })
 
 -- what the open transfer's clause says
 transfer-clause : (f : Face) (t : Transfer) → Fits f → f .hot .transfer ≡ t → transferFits (f .settled) t ≡ true
@@ -295,7 +286,7 @@ read-word-fits f m (TakingPassword b) e k = k
 
 write-next-free : (f : Face) (r : Run) → settledFits (f .settled) ≡ true → f .hot .signals .held ≡ false → isLocked (f .settled .security .lock) ≡ false → Free (writeNextOf f r)
 unfolding writeNextOf
-write-next-free f r s h l = pick-free (ltb 0 (r .after)) _ _ (λ q. want-at-free f _ s h l) (λ q. record { sound = s; free = h; fits = refl })
+write-next-free f r s h l = pick-each Free (ltb 0 (r .after)) _ _ (λ q. want-at-free f _ s h l) (λ q. record { sound = s; free = h; fits = refl })
 
 write-last-free : (f : Face) (r : Run) (a : Address) → settledFits (f .settled) ≡ true → f .hot .signals .held ≡ false → isLocked (f .settled .security .lock) ≡ false → Free (writeLastAs f r a)
 write-last-free f r (Names x) s h l = write-next-free f r s h l
@@ -304,12 +295,12 @@ write-last-free f r Faults s h l = not-found-free f r s h
 write-run-free : (f : Face) (r : Run) (w : ℕ) → settledFits (f .settled) ≡ true → f .hot .signals .held ≡ false → runFits (f .settled) r ≡ true → Free (writeRunOf f r w)
 unfolding writeRunOf writeLastOf runFits
 write-run-free f r w s h e =
-    pick-free (ltb (r .word) 255) _ _ (λ q. record { sound = s; free = h; fits = e })
+    pick-each Free (ltb (r .word) 255) _ _ (λ q. record { sound = s; free = h; fits = e })
     (λ q. write-last-free (wordIn f (r .word) w) r (located (f .settled) (r .at)) s h (run-unlocked (f .settled) r e))
 
 write-buffer-free : (f : Face) (n w : ℕ) → settledFits (f .settled) ≡ true → f .hot .signals .held ≡ false → Free (writeBufferWord f n w)
 unfolding writeBufferWord
-write-buffer-free f n w s h = pick-free (ltb n 255) _ _ (λ q. record { sound = s; free = h; fits = refl }) (λ q. record { sound = s; free = h; fits = refl })
+write-buffer-free f n w s h = pick-each Free (ltb n 255) _ _ (λ q. record { sound = s; free = h; fits = refl }) (λ q. record { sound = s; free = h; fits = refl })
 
 ended-free : (f : Face) (v : Verdict) → settledFits (f .settled) ≡ true → f .hot .signals .held ≡ false → Free (endedAs f v)
 ended-free f EndsWell s h = record { sound = s; free = h; fits = refl }
@@ -323,15 +314,11 @@ password-last-free f x p s h =
     ended-free (passwordEnded f (judgementOf f x p .security)) (judgementOf f x p .verdict)
     (security-kept (f .settled) _ s (sound-fits _ (judge-sound p (f .settled .security) x (f .buffer) k))) h
 
-pick-acted : (b : Bool) (x y : Acted) → (b ≡ true → Free (x .face)) → (b ≡ false → Free (y .face)) → Free (pick b x y .face)
-pick-acted true x y p q = p refl
-pick-acted false x y p q = q refl
-
 password-word-free : (f : Face) (x : Secrets) (b : PasswordBlock) (w : ℕ) → settledFits (f .settled) ≡ true → f .hot .signals .held ≡ false
     → passwordFits (f .settled .security) (b .purpose) ≡ true → Free (passwordWord f x b w .face)
 unfolding passwordWord
 password-word-free f x b w s h e =
-    pick-acted (ltb (b .word) 255) _ _ (λ q. record { sound = s; free = h; fits = e })
+    pick-each (λ (x : Acted). Free (x .face)) (ltb (b .word) 255) _ _ (λ q. record { sound = s; free = h; fits = e })
     (λ q. password-last-free (wordIn f (b .word) w) x (b .purpose) s h)
 
 write-word-fits : (f : Face) (x : Secrets) (m : List ℕ) (w : ℕ) (t : Transfer) → f .hot .transfer ≡ t → Fits f → Fits (writeWordAs f x m w t .acted .face)
@@ -367,14 +354,6 @@ record Kept (h k : Hot) : Type 0 where
   held : k .signals .held ≡ h .signals .held
   transfer : k .transfer ≡ h .transfer
 
-kept-pick : {h : Hot} (b : Bool) (x y : Hot) → Kept h x → Kept h y → Kept h (pick b x y)
-kept-pick true x y p q = p
-kept-pick false x y p q = q
-
-kept-seen : {h : Hot} (b : Bool) (x y : Seen) → Kept h (x .hot) → Kept h (y .hot) → Kept h (pick b x y .hot)
-kept-seen true x y p q = p
-kept-seen false x y p q = q
-
 kept-fits : (f : Face) (h : Hot) → Fits f → Kept (f .hot) h → Fits (withHot f h)
 unfolding heldFits
 kept-fits f h k e =
@@ -383,8 +362,8 @@ kept-fits f h k e =
 read-kept : (h : Hot) (n : ℕ) → Kept h (readRegister h n .hot)
 unfolding readRegister
 read-kept h n =
-    kept-seen (eqb n 1) _ _ same (kept-seen (eqb n 2) _ _ same (kept-seen (eqb n 3) _ _ same (kept-seen (eqb n 4) _ _ same (kept-seen (eqb n 5) _ _ same
-    (kept-seen (eqb n 6) _ _ same (kept-seen (eqb n 7) _ _ record { held = refl; transfer = refl } (kept-seen (eqb n 8) _ _ same same)))))))
+    pick-both (λ (s : Seen). Kept h (s .hot)) (eqb n 1) _ _ same (pick-both (λ (s : Seen). Kept h (s .hot)) (eqb n 2) _ _ same (pick-both (λ (s : Seen). Kept h (s .hot)) (eqb n 3) _ _ same (pick-both (λ (s : Seen). Kept h (s .hot)) (eqb n 4) _ _ same (pick-both (λ (s : Seen). Kept h (s .hot)) (eqb n 5) _ _ same
+    (pick-both (λ (s : Seen). Kept h (s .hot)) (eqb n 6) _ _ same (pick-both (λ (s : Seen). Kept h (s .hot)) (eqb n 7) _ _ record { held = refl; transfer = refl } (pick-both (λ (s : Seen). Kept h (s .hot)) (eqb n 8) _ _ same same)))))))
   where
     same : Kept h h
     same = record { held = refl; transfer = refl }
@@ -392,13 +371,13 @@ read-kept h n =
 store-kept : (h : Hot) (n v : ℕ) → Kept h (storeRegister h n v)
 unfolding storeRegister
 store-kept h n v =
-    kept-pick (eqb n 1) _ _ record { held = refl; transfer = refl } (kept-pick (eqb n 2) _ _ record { held = refl; transfer = refl }
-    (kept-pick (eqb n 3) _ _ record { held = refl; transfer = refl } (kept-pick (eqb n 4) _ _ record { held = refl; transfer = refl }
-    (kept-pick (eqb n 5) _ _ record { held = refl; transfer = refl } record { held = refl; transfer = refl }))))
+    pick-both (Kept h) (eqb n 1) _ _ record { held = refl; transfer = refl } (pick-both (Kept h) (eqb n 2) _ _ record { held = refl; transfer = refl }
+    (pick-both (Kept h) (eqb n 3) _ _ record { held = refl; transfer = refl } (pick-both (Kept h) (eqb n 4) _ _ record { held = refl; transfer = refl }
+    (pick-both (Kept h) (eqb n 5) _ _ record { held = refl; transfer = refl } record { held = refl; transfer = refl }))))
 
 put-kept : (h : Hot) (n v : ℕ) → Kept h (putRegister h n v)
 unfolding putRegister
-put-kept h n v = kept-pick (busyOf h) _ _ record { held = refl; transfer = refl } (store-kept h n v)
+put-kept h n v = pick-both (Kept h) (busyOf h) _ _ record { held = refl; transfer = refl } (store-kept h n v)
 
 pub power-on-fits : (f : Face) → settledFits (f .settled) ≡ true → Fits (poweredOnFace f)
 unfolding heldFits
@@ -417,17 +396,13 @@ soft-reset-fits f masked s =
 control-fits : (f : Face) (v : ℕ) → Fits f → Fits (controlOf f v)
 unfolding controlOf heldFits
 control-fits f v k =
-    pick-fits (srstOf v) _ _ (λ e. soft-reset-fits f (nienOf v) (k .sound)) (λ e. record { sound = k .sound; held = refl; fits = k .fits })
-
-pick-told : (b : Bool) (x y : Told) → Fits (x .face) → Fits (y .face) → Fits (pick b x y .face)
-pick-told true x y p q = p
-pick-told false x y p q = q
+    pick-each Fits (srstOf v) _ _ (λ e. soft-reset-fits f (nienOf v) (k .sound)) (λ e. record { sound = k .sound; held = refl; fits = k .fits })
 
 write-register-fits : (f : Face) (m : List ℕ) (n v : ℕ) → Fits f → Fits (writeRegisterOf f m n v .face)
 unfolding writeRegisterOf
 write-register-fits f m n v k =
-    pick-told (within 1 6 n) _ _ (kept-fits f _ k (put-kept (f .hot) n v))
-    (pick-told (eqb n 7) _ _ (command-fits f m v k) (pick-told (eqb n 8) _ _ (control-fits f v k) k))
+    pick-both (λ (t : Told). Fits (t .face)) (within 1 6 n) _ _ (kept-fits f _ k (put-kept (f .hot) n v))
+    (pick-both (λ (t : Told). Fits (t .face)) (eqb n 7) _ _ (command-fits f m v k) (pick-both (λ (t : Told). Fits (t .face)) (eqb n 8) _ _ (control-fits f v k) k))
 
 -- every action keeps the disk in shape
 pub act-fits : (f : Face) (x : Secrets) (m : List ℕ) (a : Action) → Fits f → Fits (actOf f x m a .acted .face)

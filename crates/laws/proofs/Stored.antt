@@ -7,7 +7,7 @@ use lib.Dec.{eqb}
 use lib.ListN.{length}
 use borrow.Author.Tests.{eq-eqb, lt-ltb, le-ltb}
 use Rattle.base.specs.Choice.{pick}
-use Rattle.base.proofs.Tests.{false≢true}
+use Rattle.base.proofs.Tests.{false≢true, pick-both}
 use Rattle.address.specs.declared.Address.{Address}
 use Rattle.address.specs.declared.Address.the-variants.{Names}
 use Rattle.address.specs.declared.Sector.{Sector}
@@ -27,16 +27,11 @@ use Rattle.device.specs.Alone.{Step, ignoredOf, aloneOf}
 use Rattle.device.specs.Host.{shapedOf, memoryLength, stepOf}
 use Rattle.device.specs.declared.Device.{Device}
 
--- one of two steps, each of which keeps the sectors
-pick-kept : {m : List ℕ} (b : Bool) (s t : Step) → s .sectors ≡ m → t .sectors ≡ m → pick b s t .sectors ≡ m
-pick-kept true s t p q = p
-pick-kept false s t p q = q
-
 -- a call keeps the sectors where its action on the disk does
 step-keeps : (d : Device) (m : List ℕ) (a : Action) → actOf (d .face) (d .secrets) m a .sectors ≡ m → stepOf d m a .sectors ≡ m
 unfolding stepOf aloneOf
 step-keeps d m a e =
-    pick-kept (shapedOf d) _ _ (pick-kept (eqb (length m) (memoryLength d)) _ _ (pick-kept (ignoredOf (d .face .hot) a) _ _ refl e) refl) refl
+    pick-both (λ (s : Step). s .sectors ≡ m) (shapedOf d) _ _ (pick-both (λ (s : Step). s .sectors ≡ m) (eqb (length m) (memoryLength d)) _ _ (pick-both (λ (s : Step). s .sectors ≡ m) (ignoredOf (d .face .hot) a) _ _ refl e) refl) refl
 
 -- an action that writes a data word
 abbrev pub writesWord : Action → Bool

@@ -1,5 +1,5 @@
 -- Security settings in shape, said by their bounds; every change to them that a command, a password block or a reset makes keeps them so.
-use mathlib.Core.Bool.{Bool, true, false}
+use mathlib.Core.Bool.{Bool, true, false, not}
 use mathlib.Core.Path.{_≡_, refl}
 use mathlib.Core.List.{List}
 use Prim.Native.Nat.{ℕ, _≤_}
@@ -8,9 +8,10 @@ use borrow.Author.Tests.{le-leb, leb-true}
 use lib.Dec.{leb, ltb}
 use Rattle.base.specs.Choice.{pick}
 use Rattle.base.proofs.Tests.{false≢true, both-true}
-use Rattle.lock.specs.Lock.{isLocked, openedOf, frozenOf, preparedOf, unpreparedOf, mismatchedOf, startingLock, poweredOn, securityFits}
+use Rattle.lock.specs.Lock.{isOpen, isLocked, openedOf, frozenOf, preparedOf, unpreparedOf, mismatchedOf, startingLock, poweredOn, securityFits}
 use Rattle.lock.specs.Passwords.{masterPicked, matchesOf}
 use Rattle.lock.specs.Judging.{setOf, masterAtMaximum, unlockLocked, unlockOf, acceptsOf, eraseOf, disableOf, judgeOf}
+use Rattle.lock.specs.declared.Lock.the-variants.{Open, Locked}
 use Rattle.lock.specs.declared.Security.{Security}
 use Rattle.lock.specs.declared.Secrets.{Secrets}
 use Rattle.lock.specs.declared.Judged.{Judged}
@@ -93,6 +94,28 @@ prepare-sound s k = record { few = k .few; sure = k .sure }
 
 pub unprepare-sound : (s : Security) → Sound s → Sound (unpreparedOf s)
 unprepare-sound s k = record { few = k .few; sure = k .sure }
+
+-- what power-on and hardware reset leave: five attempts, no preparation, locked exactly if security is enabled, else open; level and mark stay
+pub record PoweredOn (s t : Security) : Type 0 where
+  pub five : t .attempts ≡ 5
+  pub unprepared : t .prepared ≡ false
+  pub enabled : t .enabled ≡ s .enabled
+  pub maximum : t .maximum ≡ s .maximum
+  pub locked : isLocked (t .lock) ≡ s .enabled
+  pub else-open : isOpen (t .lock) ≡ not (s .enabled)
+
+pub power-on-leaves : (s : Security) → PoweredOn s (poweredOn s)
+unfolding startingLock
+power-on-leaves s =
+    record { five = refl; unprepared = refl; enabled = refl; maximum = refl; locked = locks (s .enabled); else-open = opens (s .enabled) }
+  where
+    locks : (on : Bool) → isLocked (pick on Locked Open) ≡ on
+    locks true = refl
+    locks false = refl
+
+    opens : (on : Bool) → isOpen (pick on Locked Open) ≡ not on
+    opens true = refl
+    opens false = refl
 
 -- power-on and hardware reset, whatever was before
 pub power-on-sound : (s : Security) → Sound (poweredOn s)
