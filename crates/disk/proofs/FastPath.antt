@@ -26,28 +26,29 @@ abbrev pub quickThen : Face → Secrets → List ℕ → List ℕ → Quick → 
 quickThen f x m b (Settles s) slow = effect (seenActed (withBuffer f b) x s) m
 quickThen f x m b Slow slow = slow
 
-quick-reading : (f : Face) (x : Secrets) (m : List ℕ) (r : Run)
-    → effect (toldActed x (readWordAs f m (Reading r))) m ≡ quickThen f x m (f .buffer) (quickReadOf (f .hot) (f .buffer) (Reading r)) (effect (toldActed x (readWordAs f m (Reading r))) m)
+-- a data word read by the fast path where it settles it
+abbrev ReadQuickly : Face → Secrets → List ℕ → Transfer → Type 0
+ReadQuickly f x m t =
+    effect (toldActed x (readWordAs f m t)) m
+    ≡ quickThen f x m (f .buffer) (quickReadOf (f .hot) (f .buffer) t) (effect (toldActed x (readWordAs f m t)) m)
+
+quick-reading : (f : Face) (x : Secrets) (m : List ℕ) (r : Run) → ReadQuickly f x m (Reading r)
 unfolding quickReadOf readRunOf
 quick-reading f x m r = go (ltb (r .word) 255) refl
   where
-    go : (b : Bool) → ltb (r .word) 255 ≡ b
-        → effect (toldActed x (readWordAs f m (Reading r))) m ≡ quickThen f x m (f .buffer) (quickReadOf (f .hot) (f .buffer) (Reading r)) (effect (toldActed x (readWordAs f m (Reading r))) m)
+    go : (b : Bool) → ltb (r .word) 255 ≡ b → ReadQuickly f x m (Reading r)
     go true e = simp e
     go false e = simp e
 
-quick-reading-buffer : (f : Face) (x : Secrets) (m : List ℕ) (n : ℕ)
-    → effect (toldActed x (readWordAs f m (ReadingBuffer n))) m ≡ quickThen f x m (f .buffer) (quickReadOf (f .hot) (f .buffer) (ReadingBuffer n)) (effect (toldActed x (readWordAs f m (ReadingBuffer n))) m)
+quick-reading-buffer : (f : Face) (x : Secrets) (m : List ℕ) (n : ℕ) → ReadQuickly f x m (ReadingBuffer n)
 unfolding quickReadOf readBufferWord
 quick-reading-buffer f x m n = go (ltb n 255) refl
   where
-    go : (b : Bool) → ltb n 255 ≡ b
-        → effect (toldActed x (readWordAs f m (ReadingBuffer n))) m ≡ quickThen f x m (f .buffer) (quickReadOf (f .hot) (f .buffer) (ReadingBuffer n)) (effect (toldActed x (readWordAs f m (ReadingBuffer n))) m)
+    go : (b : Bool) → ltb n 255 ≡ b → ReadQuickly f x m (ReadingBuffer n)
     go true e = simp e
     go false e = simp e
 
-quick-read : (f : Face) (x : Secrets) (m : List ℕ) (t : Transfer)
-    → effect (toldActed x (readWordAs f m t)) m ≡ quickThen f x m (f .buffer) (quickReadOf (f .hot) (f .buffer) t) (effect (toldActed x (readWordAs f m t)) m)
+quick-read : (f : Face) (x : Secrets) (m : List ℕ) (t : Transfer) → ReadQuickly f x m t
 unfolding quickReadOf
 quick-read f x m Idle = refl
 quick-read f x m (Reading r) = quick-reading f x m r
@@ -56,38 +57,37 @@ quick-read f x m (ReadingBuffer n) = quick-reading-buffer f x m n
 quick-read f x m (WritingBuffer n) = refl
 quick-read f x m (TakingPassword b) = refl
 
-quick-writing : (f : Face) (x : Secrets) (m : List ℕ) (w : ℕ) (r : Run)
-    → writeWordAs f x m w (Writing r) ≡ quickThen f x m (quickWriteBuffer (f .buffer) w (Writing r)) (quickWriteOf (f .hot) (Writing r)) (writeWordAs f x m w (Writing r))
+-- a data word written by the fast path where it settles it
+abbrev WrittenQuickly : Face → Secrets → List ℕ → ℕ → Transfer → Type 0
+WrittenQuickly f x m w t =
+    writeWordAs f x m w t
+    ≡ quickThen f x m (quickWriteBuffer (f .buffer) w t) (quickWriteOf (f .hot) t) (writeWordAs f x m w t)
+
+quick-writing : (f : Face) (x : Secrets) (m : List ℕ) (w : ℕ) (r : Run) → WrittenQuickly f x m w (Writing r)
 unfolding quickWriteOf quickWriteBuffer writeRunOf writeRunSectors
 quick-writing f x m w r = go (ltb (r .word) 255) refl
   where
-    go : (b : Bool) → ltb (r .word) 255 ≡ b
-        → writeWordAs f x m w (Writing r) ≡ quickThen f x m (quickWriteBuffer (f .buffer) w (Writing r)) (quickWriteOf (f .hot) (Writing r)) (writeWordAs f x m w (Writing r))
+    go : (b : Bool) → ltb (r .word) 255 ≡ b → WrittenQuickly f x m w (Writing r)
     go true e = simp e
     go false e = simp e
 
-quick-writing-buffer : (f : Face) (x : Secrets) (m : List ℕ) (w n : ℕ)
-    → writeWordAs f x m w (WritingBuffer n) ≡ quickThen f x m (quickWriteBuffer (f .buffer) w (WritingBuffer n)) (quickWriteOf (f .hot) (WritingBuffer n)) (writeWordAs f x m w (WritingBuffer n))
+quick-writing-buffer : (f : Face) (x : Secrets) (m : List ℕ) (w n : ℕ) → WrittenQuickly f x m w (WritingBuffer n)
 unfolding quickWriteOf quickWriteBuffer writeBufferWord
 quick-writing-buffer f x m w n = go (ltb n 255) refl
   where
-    go : (b : Bool) → ltb n 255 ≡ b
-        → writeWordAs f x m w (WritingBuffer n) ≡ quickThen f x m (quickWriteBuffer (f .buffer) w (WritingBuffer n)) (quickWriteOf (f .hot) (WritingBuffer n)) (writeWordAs f x m w (WritingBuffer n))
+    go : (b : Bool) → ltb n 255 ≡ b → WrittenQuickly f x m w (WritingBuffer n)
     go true e = simp e
     go false e = simp e
 
-quick-password : (f : Face) (x : Secrets) (m : List ℕ) (w : ℕ) (p : PasswordBlock)
-    → writeWordAs f x m w (TakingPassword p) ≡ quickThen f x m (quickWriteBuffer (f .buffer) w (TakingPassword p)) (quickWriteOf (f .hot) (TakingPassword p)) (writeWordAs f x m w (TakingPassword p))
+quick-password : (f : Face) (x : Secrets) (m : List ℕ) (w : ℕ) (p : PasswordBlock) → WrittenQuickly f x m w (TakingPassword p)
 unfolding quickWriteOf quickWriteBuffer passwordWord passwordWordSectors
 quick-password f x m w p = go (ltb (p .word) 255) refl
   where
-    go : (b : Bool) → ltb (p .word) 255 ≡ b
-        → writeWordAs f x m w (TakingPassword p) ≡ quickThen f x m (quickWriteBuffer (f .buffer) w (TakingPassword p)) (quickWriteOf (f .hot) (TakingPassword p)) (writeWordAs f x m w (TakingPassword p))
+    go : (b : Bool) → ltb (p .word) 255 ≡ b → WrittenQuickly f x m w (TakingPassword p)
     go true e = simp e
     go false e = simp e
 
-quick-write : (f : Face) (x : Secrets) (m : List ℕ) (w : ℕ) (t : Transfer)
-    → writeWordAs f x m w t ≡ quickThen f x m (quickWriteBuffer (f .buffer) w t) (quickWriteOf (f .hot) t) (writeWordAs f x m w t)
+quick-write : (f : Face) (x : Secrets) (m : List ℕ) (w : ℕ) (t : Transfer) → WrittenQuickly f x m w t
 unfolding quickWriteOf quickWriteBuffer
 quick-write f x m w Idle = refl
 quick-write f x m w (Reading r) = refl
@@ -96,13 +96,17 @@ quick-write f x m w (ReadingBuffer n) = refl
 quick-write f x m w (WritingBuffer n) = quick-writing-buffer f x m w n
 quick-write f x m w (TakingPassword p) = quick-password f x m w p
 
-quick-put : (f : Face) (x : Secrets) (m : List ℕ) (n v : ℕ)
-    → effect (toldActed x (writeRegisterOf f m n v)) m ≡ quickThen f x m (f .buffer) (quickPutOf (f .hot) n v) (effect (toldActed x (writeRegisterOf f m n v)) m)
+-- a write to a register by the fast path where it settles it
+abbrev PutQuickly : Face → Secrets → List ℕ → ℕ → ℕ → Type 0
+PutQuickly f x m n v =
+    effect (toldActed x (writeRegisterOf f m n v)) m
+    ≡ quickThen f x m (f .buffer) (quickPutOf (f .hot) n v) (effect (toldActed x (writeRegisterOf f m n v)) m)
+
+quick-put : (f : Face) (x : Secrets) (m : List ℕ) (n v : ℕ) → PutQuickly f x m n v
 unfolding quickPutOf writeRegisterOf
 quick-put f x m n v = go (within 1 6 n) refl
   where
-    go : (b : Bool) → within 1 6 n ≡ b
-        → effect (toldActed x (writeRegisterOf f m n v)) m ≡ quickThen f x m (f .buffer) (quickPutOf (f .hot) n v) (effect (toldActed x (writeRegisterOf f m n v)) m)
+    go : (b : Bool) → within 1 6 n ≡ b → PutQuickly f x m n v
     go true e = simp e
     go false e = simp e
 

@@ -252,28 +252,43 @@ open-clear h e o = go (alone-clauses h e)
     go (inl c) = c
     go (inr p) = absurd (false≢true (sym o ∙ p .1))
 
-read-word-alone : (f : Face) (m : List ℕ) (t : Transfer) → f .hot .transfer ≡ t → Fits f → aloneFits (f .hot) ≡ true → aloneFits (readWordAs f m t .face .hot) ≡ true
+read-word-open : (f : Face) (m : List ℕ) (t : Transfer) → f .hot .transfer ≡ t → Fits f → aloneFits (f .hot) ≡ true → isIdle t ≡ false
+    → aloneFits (readWordAs f m t .face .hot) ≡ true
+read-word-open f m t e k a o =
+    placed-alone (f .hot) _ (open-clear (f .hot) a (ap isIdle e ∙ o)) (read-word-held f m t e k o) (read-word-placed f m t)
+
+read-word-alone : (f : Face) (m : List ℕ) (t : Transfer) → f .hot .transfer ≡ t → Fits f → aloneFits (f .hot) ≡ true
+    → aloneFits (readWordAs f m t .face .hot) ≡ true
 read-word-alone f m Idle e k a = a
-read-word-alone f m (Reading r) e k a = placed-alone (f .hot) _ (open-clear (f .hot) a (ap isIdle e)) (read-word-held f m (Reading r) e k refl) (read-word-placed f m (Reading r))
-read-word-alone f m (Writing r) e k a = a
-read-word-alone f m (ReadingBuffer n) e k a = placed-alone (f .hot) _ (open-clear (f .hot) a (ap isIdle e)) (read-word-held f m (ReadingBuffer n) e k refl) (read-word-placed f m (ReadingBuffer n))
-read-word-alone f m (WritingBuffer n) e k a = a
-read-word-alone f m (TakingPassword b) e k a = a
+read-word-alone f m (Reading r) e k a = read-word-open f m (Reading r) e k a refl
+read-word-alone f m (Writing r) e k a = read-word-open f m (Writing r) e k a refl
+read-word-alone f m (ReadingBuffer n) e k a = read-word-open f m (ReadingBuffer n) e k a refl
+read-word-alone f m (WritingBuffer n) e k a = read-word-open f m (WritingBuffer n) e k a refl
+read-word-alone f m (TakingPassword b) e k a = read-word-open f m (TakingPassword b) e k a refl
+
+write-word-open : (f : Face) (x : Secrets) (m : List ℕ) (w : ℕ) (t : Transfer) → f .hot .transfer ≡ t → Fits f → aloneFits (f .hot) ≡ true → isIdle t ≡ false
+    → aloneFits (writeWordAs f x m w t .acted .face .hot) ≡ true
+write-word-open f x m w t e k a o =
+    placed-alone (f .hot) _ (open-clear (f .hot) a (ap isIdle e ∙ o)) (write-word-held f x m w t e k o) (write-word-placed f x m w t)
 
 write-word-alone : (f : Face) (x : Secrets) (m : List ℕ) (w : ℕ) (t : Transfer) → f .hot .transfer ≡ t → Fits f → aloneFits (f .hot) ≡ true
     → aloneFits (writeWordAs f x m w t .acted .face .hot) ≡ true
 write-word-alone f x m w Idle e k a = a
-write-word-alone f x m w (Reading r) e k a = a
-write-word-alone f x m w (Writing r) e k a = placed-alone (f .hot) _ (open-clear (f .hot) a (ap isIdle e)) (write-word-held f x m w (Writing r) e k refl) (write-word-placed f x m w (Writing r))
-write-word-alone f x m w (ReadingBuffer n) e k a = a
-write-word-alone f x m w (WritingBuffer n) e k a = placed-alone (f .hot) _ (open-clear (f .hot) a (ap isIdle e)) (write-word-held f x m w (WritingBuffer n) e k refl) (write-word-placed f x m w (WritingBuffer n))
-write-word-alone f x m w (TakingPassword b) e k a = placed-alone (f .hot) _ (open-clear (f .hot) a (ap isIdle e)) (write-word-held f x m w (TakingPassword b) e k refl) (write-word-placed f x m w (TakingPassword b))
+write-word-alone f x m w (Reading r) e k a = write-word-open f x m w (Reading r) e k a refl
+write-word-alone f x m w (Writing r) e k a = write-word-open f x m w (Writing r) e k a refl
+write-word-alone f x m w (ReadingBuffer n) e k a = write-word-open f x m w (ReadingBuffer n) e k a refl
+write-word-alone f x m w (WritingBuffer n) e k a = write-word-open f x m w (WritingBuffer n) e k a refl
+write-word-alone f x m w (TakingPassword b) e k a = write-word-open f x m w (TakingPassword b) e k a refl
 
+-- reads change neither address nor transfer nor reset
 read-alone : (h : Hot) (n : ℕ) → aloneFits h ≡ true → aloneFits (readRegister h n .hot) ≡ true
 unfolding readRegister aloneFits devSet
 read-alone h n a =
-    pick-both (λ (s : Seen). aloneFits (s .hot) ≡ true) (eqb n 1) _ _ a (pick-both (λ (s : Seen). aloneFits (s .hot) ≡ true) (eqb n 2) _ _ a (pick-both (λ (s : Seen). aloneFits (s .hot) ≡ true) (eqb n 3) _ _ a (pick-both (λ (s : Seen). aloneFits (s .hot) ≡ true) (eqb n 4) _ _ a
-    (pick-both (λ (s : Seen). aloneFits (s .hot) ≡ true) (eqb n 5) _ _ a (pick-both (λ (s : Seen). aloneFits (s .hot) ≡ true) (eqb n 6) _ _ a (pick-both (λ (s : Seen). aloneFits (s .hot) ≡ true) (eqb n 7) _ _ a (pick-both (λ (s : Seen). aloneFits (s .hot) ≡ true) (eqb n 8) _ _ a a)))))))
+    pick-both P (eqb n 1) _ _ a (pick-both P (eqb n 2) _ _ a (pick-both P (eqb n 3) _ _ a (pick-both P (eqb n 4) _ _ a
+    (pick-both P (eqb n 5) _ _ a (pick-both P (eqb n 6) _ _ a (pick-both P (eqb n 7) _ _ a (pick-both P (eqb n 8) _ _ a a)))))))
+  where
+    P : Seen → Type 0
+    P s = aloneFits (s .hot) ≡ true
 
 -- a register is stored only where nothing is open or held
 busy-not : (held idle : Bool) → pick held true (pick idle false true) ≡ false → (held ≡ false) × (idle ≡ true)

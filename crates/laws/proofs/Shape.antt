@@ -15,6 +15,7 @@ use Rattle.address.specs.Successor.{successorOf}
 use Rattle.address.specs.declared.AddressRegisters.{AddressRegisters}
 use Rattle.address.specs.declared.Address.{Address}
 use Rattle.address.specs.declared.Address.the-variants.{Names, Faults}
+use Rattle.address.specs.declared.Sector.{Sector}
 use Rattle.lock.specs.Lock.{isOpen, isLocked, isFrozen, securityFits}
 use Rattle.lock.specs.declared.Lock.{Lock}
 use Rattle.lock.specs.declared.Lock.the-variants.{Open, Locked, Frozen}
@@ -69,6 +70,11 @@ translation-kept s t e h =
     let k = settled-clauses s e in
     clauses-settled (withTranslation s t) record { geometry = k .geometry; identity = k .identity; translation = h; security = k .security }
 
+-- the settled part in shape, and no reset held: what a command or a word finds
+record Running (f : Face) : Type 0 where
+  sound : settledFits (f .settled) ≡ true
+  free : f .hot .signals .held ≡ false
+
 -- the disk in shape, and no reset held
 pub record Free (f : Face) : Type 0 where
   pub sound : settledFits (f .settled) ≡ true
@@ -81,58 +87,58 @@ free-fits f k = record { sound = k .sound; held = rw (k .free); fits = k .fits }
 
 -- ---- sectors reached
 
-not-found-free : (f : Face) (r : Run) → settledFits (f .settled) ≡ true → f .hot .signals .held ≡ false → Free (notFoundOf f r)
+not-found-free : (f : Face) (r : Run) → Running f → Free (notFoundOf f r)
 unfolding notFoundOf
-not-found-free f r s h = record { sound = s; free = h; fits = refl }
+not-found-free f r u = record { sound = u .sound; free = u .free; fits = refl }
 
 run-fits : (s : Settled) (r : Run) (x : Address) → located s (r .at) ≡ x → isNamed x ≡ true → isLocked (s .security .lock) ≡ false → runFits s r ≡ true
 unfolding runFits
 run-fits s r x e n l = rw l (ap isNamed e ∙ n)
 
-read-at-free : (f : Face) (m : List ℕ) (r : Run) → settledFits (f .settled) ≡ true → f .hot .signals .held ≡ false → isLocked (f .settled .security .lock) ≡ false → Free (readAt f m r)
+-- a sector is reached: its address names it, or faults
+address-free : (f : Face) (r : Run) (k : Address → Face) → ((x : Sector) → located (f .settled) (r .at) ≡ Names x → Free (k (Names x))) → Free (k Faults)
+    → Free (k (located (f .settled) (r .at)))
+address-free f r k named faults = go (located (f .settled) (r .at)) refl
+  where
+    go : (a : Address) → located (f .settled) (r .at) ≡ a → Free (k a)
+    go (Names x) e = named x e
+    go Faults e = faults
+
+read-at-free : (f : Face) (m : List ℕ) (r : Run) → Running f → isLocked (f .settled .security .lock) ≡ false → Free (readAt f m r)
 unfolding readAt
-read-at-free f m r s h l = go (located (f .settled) (r .at)) refl
-  where
-    go : (a : Address) → located (f .settled) (r .at) ≡ a → Free (readAs f m r a)
-    go (Names x) e = record { sound = s; free = h; fits = run-fits (f .settled) r (Names x) e refl l }
-    go Faults e = not-found-free f r s h
+read-at-free f m r u l =
+    address-free f r (readAs f m r) (λ x e. record { sound = u .sound; free = u .free; fits = run-fits (f .settled) r (Names x) e refl l }) (not-found-free f r u)
 
-write-at-free : (f : Face) (r : Run) → settledFits (f .settled) ≡ true → f .hot .signals .held ≡ false → isLocked (f .settled .security .lock) ≡ false → Free (writeAt f r)
+write-at-free : (f : Face) (r : Run) → Running f → isLocked (f .settled .security .lock) ≡ false → Free (writeAt f r)
 unfolding writeAt
-write-at-free f r s h l = go (located (f .settled) (r .at)) refl
-  where
-    go : (a : Address) → located (f .settled) (r .at) ≡ a → Free (writeAs f r a)
-    go (Names x) e = record { sound = s; free = h; fits = run-fits (f .settled) r (Names x) e refl l }
-    go Faults e = not-found-free f r s h
+write-at-free f r u l =
+    address-free f r (writeAs f r) (λ x e. record { sound = u .sound; free = u .free; fits = run-fits (f .settled) r (Names x) e refl l }) (not-found-free f r u)
 
-want-at-free : (f : Face) (r : Run) → settledFits (f .settled) ≡ true → f .hot .signals .held ≡ false → isLocked (f .settled .security .lock) ≡ false → Free (wantAt f r)
+want-at-free : (f : Face) (r : Run) → Running f → isLocked (f .settled .security .lock) ≡ false → Free (wantAt f r)
 unfolding wantAt
-want-at-free f r s h l = go (located (f .settled) (r .at)) refl
-  where
-    go : (a : Address) → located (f .settled) (r .at) ≡ a → Free (wantAs f r a)
-    go (Names x) e = record { sound = s; free = h; fits = run-fits (f .settled) r (Names x) e refl l }
-    go Faults e = not-found-free f r s h
+want-at-free f r u l =
+    address-free f r (wantAs f r) (λ x e. record { sound = u .sound; free = u .free; fits = run-fits (f .settled) r (Names x) e refl l }) (not-found-free f r u)
 
-verify-as-free : (f : Face) (r : Run) (rest : Face) (a : Address) → settledFits (f .settled) ≡ true → f .hot .signals .held ≡ false → Free rest → Free (verifyAs f r rest a)
-verify-as-free f r rest (Names x) s h k = k
-verify-as-free f r rest Faults s h k = not-found-free f r s h
+verify-as-free : (f : Face) (r : Run) (rest : Face) (a : Address) → Running f → Free rest → Free (verifyAs f r rest a)
+verify-as-free f r rest (Names x) u k = k
+verify-as-free f r rest Faults u k = not-found-free f r u
 
-verify-free : (f : Face) (n : ℕ) (at : AddressRegisters) → settledFits (f .settled) ≡ true → f .hot .signals .held ≡ false → Free (verifyFrom f n at)
+verify-free : (f : Face) (n : ℕ) (at : AddressRegisters) → Running f → Free (verifyFrom f n at)
 unfolding verifyFrom verifyLast
-verify-free f zero at s h = verify-as-free f _ _ (located (f .settled) at) s h record { sound = s; free = h; fits = refl }
-verify-free f (suc k) at s h = verify-as-free f _ _ (located (f .settled) at) s h (verify-free f k (successorOf (f .settled .translation) at) s h)
+verify-free f zero at u = verify-as-free f _ _ (located (f .settled) at) u record { sound = u .sound; free = u .free; fits = refl }
+verify-free f (suc k) at u = verify-as-free f _ _ (located (f .settled) at) u (verify-free f k (successorOf (f .settled .translation) at) u)
 
 -- ---- commands
 
-seek-free : (f : Face) (a : Address) → settledFits (f .settled) ≡ true → f .hot .signals .held ≡ false → Free (seekAs f a)
-seek-free f (Names x) s h = record { sound = s; free = h; fits = refl }
-seek-free f Faults s h = record { sound = s; free = h; fits = refl }
+seek-free : (f : Face) (a : Address) → Running f → Free (seekAs f a)
+seek-free f (Names x) u = record { sound = u .sound; free = u .free; fits = refl }
+seek-free f Faults u = record { sound = u .sound; free = u .free; fits = refl }
 
 initialize-free : (f : Face) (i : Initialized) → initializedOf (f .settled .geometry) (f .hot .regs .count) (f .hot .regs .at .head) ≡ i
-    → settledFits (f .settled) ≡ true → f .hot .signals .held ≡ false → Free (initializeAs f i)
-initialize-free f (To t) e s h =
-    record { sound = translation-kept (f .settled) t s (made-allowed (f .settled .geometry) (f .hot .regs .count) (f .hot .regs .at .head) t e); free = h; fits = refl }
-initialize-free f Aborted e s h = record { sound = s; free = h; fits = refl }
+    → Running f → Free (initializeAs f i)
+initialize-free f (To t) e u =
+    record { sound = translation-kept (f .settled) t (u .sound) (made-allowed (f .settled .geometry) (f .hot .regs .count) (f .hot .regs .at .head) t e); free = u .free; fits = refl }
+initialize-free f Aborted e u = record { sound = u .sound; free = u .free; fits = refl }
 
 -- what the stations told of a lock state
 not-locked-open : (l : Lock) → notLocked l ≡ true → isLocked l ≡ false
@@ -150,51 +156,51 @@ open-not-frozen Open e = refl
 open-not-frozen Locked e = absurd (false≢true e)
 open-not-frozen Frozen e = absurd (false≢true e)
 
-password-free : (f : Face) (p : Purpose) → settledFits (f .settled) ≡ true → f .hot .signals .held ≡ false
+password-free : (f : Face) (p : Purpose) → Running f
     → isFrozen (f .settled .security .lock) ≡ false → purposeFits (f .settled .security) p ≡ true → Free (takePasswordOf f p)
 unfolding takePasswordOf passwordFits
-password-free f p s h z e = record { sound = s; free = h; fits = rw z e }
+password-free f p u z e = record { sound = u .sound; free = u .free; fits = rw z e }
 
-pub command-free : (f : Face) (m : List ℕ) (k : Command) → settledFits (f .settled) ≡ true → f .hot .signals .held ≡ false
+command-free : (f : Face) (m : List ℕ) (k : Command) → Running f
     → runsIn k (f .settled .security .lock) ≡ true → barredOf k (f .settled .security) ≡ false → Free (runOf f m k)
 unfolding readSectorsOf writeSectorsOf verifySectorsOf seekOf recalibrateOf initializeParametersOf diagnosticOf identifyDeviceOf readBufferOf writeBufferOf erasePrepareOf freezeLockOf
-command-free f m Unknown s h r b = record { sound = s; free = h; fits = refl }
-command-free f m Recalibrate s h r b = record { sound = s; free = h; fits = refl }
-command-free f m ReadSectors s h r b = read-at-free f m _ s h (not-locked-open (f .settled .security .lock) r)
-command-free f m WriteSectors s h r b = write-at-free f _ s h (not-locked-open (f .settled .security .lock) r)
-command-free f m VerifySectors s h r b = verify-free f _ _ s h
-command-free f m Seek s h r b = seek-free f (located (f .settled) (f .hot .regs .at)) s h
-command-free f m ExecuteDiagnostic s h r b = record { sound = s; free = h; fits = refl }
-command-free f m InitializeParameters s h r b = initialize-free f _ refl s h
-command-free f m ReadBuffer s h r b = record { sound = s; free = h; fits = refl }
-command-free f m WriteBuffer s h r b = record { sound = s; free = h; fits = refl }
-command-free f m IdentifyDevice s h r b = record { sound = s; free = h; fits = refl }
-command-free f m SecuritySetPassword s h r b = password-free f Set s h (open-not-frozen (f .settled .security .lock) r) r
-command-free f m SecurityUnlock s h r b = password-free f Unlock s h (not-frozen-not (f .settled .security .lock) r) (ap not b)
-command-free f m SecurityErasePrepare s h r b =
-    record { sound = security-kept (f .settled) _ s (sound-fits _ (prepare-sound _ (fits-sound _ (settled-clauses (f .settled) s .security)))); free = h; fits = refl }
-command-free f m SecurityEraseUnit s h r b = password-free f Erase s h (not-frozen-not (f .settled .security .lock) r) (ap not b)
-command-free f m SecurityFreezeLock s h r b =
-    record { sound = security-kept (f .settled) _ s (sound-fits _ (freeze-sound _ (fits-sound _ (settled-clauses (f .settled) s .security)))); free = h; fits = refl }
-command-free f m SecurityDisablePassword s h r b = password-free f Disable s h (open-not-frozen (f .settled .security .lock) r) r
+command-free f m Unknown u r b = record { sound = u .sound; free = u .free; fits = refl }
+command-free f m Recalibrate u r b = record { sound = u .sound; free = u .free; fits = refl }
+command-free f m ReadSectors u r b = read-at-free f m _ u (not-locked-open (f .settled .security .lock) r)
+command-free f m WriteSectors u r b = write-at-free f _ u (not-locked-open (f .settled .security .lock) r)
+command-free f m VerifySectors u r b = verify-free f _ _ u
+command-free f m Seek u r b = seek-free f (located (f .settled) (f .hot .regs .at)) u
+command-free f m ExecuteDiagnostic u r b = record { sound = u .sound; free = u .free; fits = refl }
+command-free f m InitializeParameters u r b = initialize-free f _ refl u
+command-free f m ReadBuffer u r b = record { sound = u .sound; free = u .free; fits = refl }
+command-free f m WriteBuffer u r b = record { sound = u .sound; free = u .free; fits = refl }
+command-free f m IdentifyDevice u r b = record { sound = u .sound; free = u .free; fits = refl }
+command-free f m SecuritySetPassword u r b = password-free f Set u (open-not-frozen (f .settled .security .lock) r) r
+command-free f m SecurityUnlock u r b = password-free f Unlock u (not-frozen-not (f .settled .security .lock) r) (ap not b)
+command-free f m SecurityErasePrepare u r b =
+    record { sound = security-kept (f .settled) _ (u .sound) (sound-fits _ (prepare-sound _ (fits-sound _ (settled-clauses (f .settled) (u .sound) .security)))); free = u .free; fits = refl }
+command-free f m SecurityEraseUnit u r b = password-free f Erase u (not-frozen-not (f .settled .security .lock) r) (ap not b)
+command-free f m SecurityFreezeLock u r b =
+    record { sound = security-kept (f .settled) _ (u .sound) (sound-fits _ (freeze-sound _ (fits-sound _ (settled-clauses (f .settled) (u .sound) .security)))); free = u .free; fits = refl }
+command-free f m SecurityDisablePassword u r b = password-free f Disable u (open-not-frozen (f .settled .security .lock) r) r
 
 -- ---- the stations
 
 unprepared-kept : (s : Settled) → settledFits s ≡ true → settledFits (withSecurity s (record { lock = s .security .lock; enabled = s .security .enabled; maximum = s .security .maximum; attempts = s .security .attempts; prepared = false })) ≡ true
 unprepared-kept s e = security-kept s _ e (sound-fits _ (unprepare-sound _ (fits-sound _ (settled-clauses s e .security))))
 
-abort-free : (f : Face) (code : ℕ) → settledFits (f .settled) ≡ true → f .hot .signals .held ≡ false → Free (abortAtOnce f code)
+abort-free : (f : Face) (code : ℕ) → Running f → Free (abortAtOnce f code)
 unfolding abortAtOnce
-abort-free f code s h =
-    pick-each Free (eqb code 0xF4) _ _ (λ e. record { sound = unprepared-kept (f .settled) s; free = h; fits = refl })
-    (λ e. record { sound = s; free = h; fits = refl })
+abort-free f code u =
+    pick-each Free (eqb code 0xF4) _ _ (λ e. record { sound = unprepared-kept (f .settled) (u .sound); free = u .free; fits = refl })
+    (λ e. record { sound = u .sound; free = u .free; fits = refl })
 
-stations-free : (f : Face) (m : List ℕ) (code : ℕ) → settledFits (f .settled) ≡ true → f .hot .signals .held ≡ false → Free (stationsOf f m code)
+stations-free : (f : Face) (m : List ℕ) (code : ℕ) → Running f → Free (stationsOf f m code)
 unfolding stationsOf mayRunOf
-stations-free f m code s h =
+stations-free f m code u =
     pick-each Free (runsIn (decodeOf code) (f .settled .security .lock)) _ _
-    (λ r. pick-each Free (barredOf (decodeOf code) (f .settled .security)) _ _ (λ b. abort-free f code s h) (λ b. command-free f m (decodeOf code) s h r b))
-    (λ r. abort-free f code s h)
+    (λ r. pick-each Free (barredOf (decodeOf code) (f .settled .security)) _ _ (λ b. abort-free f code u) (λ b. command-free f m (decodeOf code) u r b))
+    (λ r. abort-free f code u)
 
 drop-purpose-sound : (f : Face) (p : Purpose) → settledFits (f .settled) ≡ true → settledFits (dropPurpose f p .settled) ≡ true
 drop-purpose-sound f Set s = s
@@ -227,7 +233,8 @@ drop-signals f (TakingPassword b) = drop-purpose-signals _ (b .purpose)
 begun-free : (f : Face) (m : List ℕ) (code : ℕ) → Fits f → f .hot .signals .held ≡ false → Free (stationsOf (begunOf f) m code)
 unfolding begunOf droppedOf
 begun-free f m code k h =
-    stations-free (begunOf f) m code (drop-sound f (f .hot .transfer) (k .sound)) (ap (λ (s : Signals). s .held) (drop-signals f (f .hot .transfer)) ∙ h)
+    stations-free (begunOf f) m code
+    record { sound = drop-sound f (f .hot .transfer) (k .sound); free = ap (λ (s : Signals). s .held) (drop-signals f (f .hot .transfer)) ∙ h }
 
 command-fits : (f : Face) (m : List ℕ) (code : ℕ) → Fits f → Fits (commandOf f m code)
 unfolding commandOf
@@ -253,6 +260,9 @@ open-free : (f : Face) → Fits f → isIdle (f .hot .transfer) ≡ false → f 
 unfolding heldFits
 open-free f k o = held-open (f .hot .signals .held) (isIdle (f .hot .transfer)) (k .held) o
 
+open-running : (f : Face) → Fits f → isIdle (f .hot .transfer) ≡ false → Running f
+open-running f k o = record { sound = k .sound; free = open-free f k o }
+
 guard : (b x : Bool) → pick b false x ≡ true → (b ≡ false) × (x ≡ true)
 guard true x e = absurd (false≢true e)
 guard false x e = (refl, e)
@@ -262,15 +272,15 @@ run-unlocked : (s : Settled) (r : Run) → runFits s r ≡ true → isLocked (s 
 unfolding runFits
 run-unlocked s r e = guard (isLocked (s .security .lock)) (isNamed (located s (r .at))) e .0
 
-read-run-free : (f : Face) (m : List ℕ) (r : Run) → settledFits (f .settled) ≡ true → f .hot .signals .held ≡ false → runFits (f .settled) r ≡ true → Free (readRunOf f m r)
+read-run-free : (f : Face) (m : List ℕ) (r : Run) → Running f → runFits (f .settled) r ≡ true → Free (readRunOf f m r)
 unfolding readRunOf readNextOf runFits
-read-run-free f m r s h e =
-    pick-each Free (ltb (r .word) 255) _ _ (λ q. record { sound = s; free = h; fits = e })
-    (λ q. pick-each Free (ltb 0 (r .after)) _ _ (λ z. read-at-free f m _ s h (run-unlocked (f .settled) r e)) (λ z. record { sound = s; free = h; fits = refl }))
+read-run-free f m r u e =
+    pick-each Free (ltb (r .word) 255) _ _ (λ q. record { sound = u .sound; free = u .free; fits = e })
+    (λ q. pick-each Free (ltb 0 (r .after)) _ _ (λ z. read-at-free f m _ u (run-unlocked (f .settled) r e)) (λ z. record { sound = u .sound; free = u .free; fits = refl }))
 
-read-buffer-free : (f : Face) (n : ℕ) → settledFits (f .settled) ≡ true → f .hot .signals .held ≡ false → Free (readBufferWord f n)
+read-buffer-free : (f : Face) (n : ℕ) → Running f → Free (readBufferWord f n)
 unfolding readBufferWord
-read-buffer-free f n s h = pick-each Free (ltb n 255) _ _ (λ q. record { sound = s; free = h; fits = refl }) (λ q. record { sound = s; free = h; fits = refl })
+read-buffer-free f n u = pick-each Free (ltb n 255) _ _ (λ q. record { sound = u .sound; free = u .free; fits = refl }) (λ q. record { sound = u .sound; free = u .free; fits = refl })
 
 -- what the open transfer's clause says
 transfer-clause : (f : Face) (t : Transfer) → Fits f → f .hot .transfer ≡ t → transferFits (f .settled) t ≡ true
@@ -278,63 +288,63 @@ transfer-clause f t k e = sym (ap (transferFits (f .settled)) e) ∙ k .fits
 
 read-word-fits : (f : Face) (m : List ℕ) (t : Transfer) → f .hot .transfer ≡ t → Fits f → Fits (readWordAs f m t .face)
 read-word-fits f m Idle e k = k
-read-word-fits f m (Reading r) e k = free-fits _ (read-run-free f m r (k .sound) (open-free f k (ap isIdle e)) (transfer-clause f (Reading r) k e))
+read-word-fits f m (Reading r) e k = free-fits _ (read-run-free f m r (open-running f k (ap isIdle e)) (transfer-clause f (Reading r) k e))
 read-word-fits f m (Writing r) e k = k
-read-word-fits f m (ReadingBuffer n) e k = free-fits _ (read-buffer-free f n (k .sound) (open-free f k (ap isIdle e)))
+read-word-fits f m (ReadingBuffer n) e k = free-fits _ (read-buffer-free f n (open-running f k (ap isIdle e)))
 read-word-fits f m (WritingBuffer n) e k = k
 read-word-fits f m (TakingPassword b) e k = k
 
-write-next-free : (f : Face) (r : Run) → settledFits (f .settled) ≡ true → f .hot .signals .held ≡ false → isLocked (f .settled .security .lock) ≡ false → Free (writeNextOf f r)
+write-next-free : (f : Face) (r : Run) → Running f → isLocked (f .settled .security .lock) ≡ false → Free (writeNextOf f r)
 unfolding writeNextOf
-write-next-free f r s h l = pick-each Free (ltb 0 (r .after)) _ _ (λ q. want-at-free f _ s h l) (λ q. record { sound = s; free = h; fits = refl })
+write-next-free f r u l = pick-each Free (ltb 0 (r .after)) _ _ (λ q. want-at-free f _ u l) (λ q. record { sound = u .sound; free = u .free; fits = refl })
 
-write-last-free : (f : Face) (r : Run) (a : Address) → settledFits (f .settled) ≡ true → f .hot .signals .held ≡ false → isLocked (f .settled .security .lock) ≡ false → Free (writeLastAs f r a)
-write-last-free f r (Names x) s h l = write-next-free f r s h l
-write-last-free f r Faults s h l = not-found-free f r s h
+write-last-free : (f : Face) (r : Run) (a : Address) → Running f → isLocked (f .settled .security .lock) ≡ false → Free (writeLastAs f r a)
+write-last-free f r (Names x) u l = write-next-free f r u l
+write-last-free f r Faults u l = not-found-free f r u
 
-write-run-free : (f : Face) (r : Run) (w : ℕ) → settledFits (f .settled) ≡ true → f .hot .signals .held ≡ false → runFits (f .settled) r ≡ true → Free (writeRunOf f r w)
+write-run-free : (f : Face) (r : Run) (w : ℕ) → Running f → runFits (f .settled) r ≡ true → Free (writeRunOf f r w)
 unfolding writeRunOf writeLastOf runFits
-write-run-free f r w s h e =
-    pick-each Free (ltb (r .word) 255) _ _ (λ q. record { sound = s; free = h; fits = e })
-    (λ q. write-last-free (wordIn f (r .word) w) r (located (f .settled) (r .at)) s h (run-unlocked (f .settled) r e))
+write-run-free f r w u e =
+    pick-each Free (ltb (r .word) 255) _ _ (λ q. record { sound = u .sound; free = u .free; fits = e })
+    (λ q. write-last-free (wordIn f (r .word) w) r (located (f .settled) (r .at)) record { sound = u .sound; free = u .free } (run-unlocked (f .settled) r e))
 
-write-buffer-free : (f : Face) (n w : ℕ) → settledFits (f .settled) ≡ true → f .hot .signals .held ≡ false → Free (writeBufferWord f n w)
+write-buffer-free : (f : Face) (n w : ℕ) → Running f → Free (writeBufferWord f n w)
 unfolding writeBufferWord
-write-buffer-free f n w s h = pick-each Free (ltb n 255) _ _ (λ q. record { sound = s; free = h; fits = refl }) (λ q. record { sound = s; free = h; fits = refl })
+write-buffer-free f n w u = pick-each Free (ltb n 255) _ _ (λ q. record { sound = u .sound; free = u .free; fits = refl }) (λ q. record { sound = u .sound; free = u .free; fits = refl })
 
-ended-free : (f : Face) (v : Verdict) → settledFits (f .settled) ≡ true → f .hot .signals .held ≡ false → Free (endedAs f v)
-ended-free f EndsWell s h = record { sound = s; free = h; fits = refl }
-ended-free f Aborts s h = record { sound = s; free = h; fits = refl }
-ended-free f Erases s h = record { sound = s; free = h; fits = refl }
+ended-free : (f : Face) (v : Verdict) → Running f → Free (endedAs f v)
+ended-free f EndsWell u = record { sound = u .sound; free = u .free; fits = refl }
+ended-free f Aborts u = record { sound = u .sound; free = u .free; fits = refl }
+ended-free f Erases u = record { sound = u .sound; free = u .free; fits = refl }
 
-password-last-free : (f : Face) (x : Secrets) (p : Purpose) → settledFits (f .settled) ≡ true → f .hot .signals .held ≡ false → Free (passwordLast f x p .face)
+password-last-free : (f : Face) (x : Secrets) (p : Purpose) → Running f → Free (passwordLast f x p .face)
 unfolding passwordLast
-password-last-free f x p s h =
-    let k = fits-sound _ (settled-clauses (f .settled) s .security) in
+password-last-free f x p u =
+    let k = fits-sound _ (settled-clauses (f .settled) (u .sound) .security) in
     ended-free (passwordEnded f (judgementOf f x p .security)) (judgementOf f x p .verdict)
-    (security-kept (f .settled) _ s (sound-fits _ (judge-sound p (f .settled .security) x (f .buffer) k))) h
+    record { sound = security-kept (f .settled) _ (u .sound) (sound-fits _ (judge-sound p (f .settled .security) x (f .buffer) k)); free = u .free }
 
-password-word-free : (f : Face) (x : Secrets) (b : PasswordBlock) (w : ℕ) → settledFits (f .settled) ≡ true → f .hot .signals .held ≡ false
+password-word-free : (f : Face) (x : Secrets) (b : PasswordBlock) (w : ℕ) → Running f
     → passwordFits (f .settled .security) (b .purpose) ≡ true → Free (passwordWord f x b w .face)
 unfolding passwordWord
-password-word-free f x b w s h e =
-    pick-each (λ (x : Acted). Free (x .face)) (ltb (b .word) 255) _ _ (λ q. record { sound = s; free = h; fits = e })
-    (λ q. password-last-free (wordIn f (b .word) w) x (b .purpose) s h)
+password-word-free f x b w u e =
+    pick-each (λ (x : Acted). Free (x .face)) (ltb (b .word) 255) _ _ (λ q. record { sound = u .sound; free = u .free; fits = e })
+    (λ q. password-last-free (wordIn f (b .word) w) x (b .purpose) record { sound = u .sound; free = u .free })
 
 write-word-fits : (f : Face) (x : Secrets) (m : List ℕ) (w : ℕ) (t : Transfer) → f .hot .transfer ≡ t → Fits f → Fits (writeWordAs f x m w t .acted .face)
 write-word-fits f x m w Idle e k = k
 write-word-fits f x m w (Reading r) e k = k
-write-word-fits f x m w (Writing r) e k = free-fits _ (write-run-free f r w (k .sound) (open-free f k (ap isIdle e)) (transfer-clause f (Writing r) k e))
+write-word-fits f x m w (Writing r) e k = free-fits _ (write-run-free f r w (open-running f k (ap isIdle e)) (transfer-clause f (Writing r) k e))
 write-word-fits f x m w (ReadingBuffer n) e k = k
-write-word-fits f x m w (WritingBuffer n) e k = free-fits _ (write-buffer-free f n w (k .sound) (open-free f k (ap isIdle e)))
-write-word-fits f x m w (TakingPassword b) e k = free-fits _ (password-word-free f x b w (k .sound) (open-free f k (ap isIdle e)) (transfer-clause f (TakingPassword b) k e))
+write-word-fits f x m w (WritingBuffer n) e k = free-fits _ (write-buffer-free f n w (open-running f k (ap isIdle e)))
+write-word-fits f x m w (TakingPassword b) e k = free-fits _ (password-word-free f x b w (open-running f k (ap isIdle e)) (transfer-clause f (TakingPassword b) k e))
 
 -- where a transfer is open, a word leaves no reset held
 pub read-word-held : (f : Face) (m : List ℕ) (t : Transfer) → f .hot .transfer ≡ t → Fits f → isIdle t ≡ false → readWordAs f m t .face .hot .signals .held ≡ false
 read-word-held f m Idle e k o = absurd (false≢true (sym o))
-read-word-held f m (Reading r) e k o = read-run-free f m r (k .sound) (open-free f k (ap isIdle e)) (transfer-clause f (Reading r) k e) .free
+read-word-held f m (Reading r) e k o = read-run-free f m r (open-running f k (ap isIdle e)) (transfer-clause f (Reading r) k e) .free
 read-word-held f m (Writing r) e k o = open-free f k (ap isIdle e)
-read-word-held f m (ReadingBuffer n) e k o = read-buffer-free f n (k .sound) (open-free f k (ap isIdle e)) .free
+read-word-held f m (ReadingBuffer n) e k o = read-buffer-free f n (open-running f k (ap isIdle e)) .free
 read-word-held f m (WritingBuffer n) e k o = open-free f k (ap isIdle e)
 read-word-held f m (TakingPassword b) e k o = open-free f k (ap isIdle e)
 
@@ -342,10 +352,10 @@ pub write-word-held : (f : Face) (x : Secrets) (m : List ℕ) (w : ℕ) (t : Tra
     → writeWordAs f x m w t .acted .face .hot .signals .held ≡ false
 write-word-held f x m w Idle e k o = absurd (false≢true (sym o))
 write-word-held f x m w (Reading r) e k o = open-free f k (ap isIdle e)
-write-word-held f x m w (Writing r) e k o = write-run-free f r w (k .sound) (open-free f k (ap isIdle e)) (transfer-clause f (Writing r) k e) .free
+write-word-held f x m w (Writing r) e k o = write-run-free f r w (open-running f k (ap isIdle e)) (transfer-clause f (Writing r) k e) .free
 write-word-held f x m w (ReadingBuffer n) e k o = open-free f k (ap isIdle e)
-write-word-held f x m w (WritingBuffer n) e k o = write-buffer-free f n w (k .sound) (open-free f k (ap isIdle e)) .free
-write-word-held f x m w (TakingPassword b) e k o = password-word-free f x b w (k .sound) (open-free f k (ap isIdle e)) (transfer-clause f (TakingPassword b) k e) .free
+write-word-held f x m w (WritingBuffer n) e k o = write-buffer-free f n w (open-running f k (ap isIdle e)) .free
+write-word-held f x m w (TakingPassword b) e k o = password-word-free f x b w (open-running f k (ap isIdle e)) (transfer-clause f (TakingPassword b) k e) .free
 
 -- ---- registers and resets
 
