@@ -19,10 +19,10 @@ use Rattle.address.specs.Successor.{successorOf}
 use Rattle.address.specs.declared.AddressRegisters.{AddressRegisters}
 use Rattle.address.specs.declared.Address.{Address}
 use Rattle.address.specs.declared.Address.the-variants.{Names, Faults}
+use Rattle.address.specs.declared.Sector.{Sector}
 use Rattle.lock.specs.Lock.{securityFits}
 use Rattle.lock.specs.declared.Secrets.{Secrets}
 use Rattle.lock.specs.declared.Purpose.{Purpose}
-use Rattle.lock.specs.declared.Purpose.the-variants.{Set, Unlock, Erase, Disable}
 use Rattle.lock.specs.declared.Verdict.{Verdict}
 use Rattle.lock.specs.declared.Verdict.the-variants.{EndsWell, Aborts, Erases}
 use Rattle.codes.specs.Commands.{codedOf, decodeOf}
@@ -36,8 +36,9 @@ use Rattle.settled.proofs.Clauses.{clauses-settled}
 use Rattle.face.specs.Face.{withSettled}
 use Rattle.face.specs.Reads.{isIdle, readRegister}
 use Rattle.face.specs.Writes.{busyOf, storeRegister, putRegister, srstOf}
-use Rattle.face.specs.Resets.{dropPurpose, dropAs, droppedOf, controlOf}
+use Rattle.face.specs.Resets.{controlOf}
 use Rattle.face.specs.declared.Run.{Run}
+use Rattle.face.specs.declared.Registers.{Registers}
 use Rattle.face.specs.declared.Transfer.{Transfer}
 use Rattle.face.specs.declared.Transfer.the-variants.{Idle, Reading, Writing, ReadingBuffer, WritingBuffer, TakingPassword}
 use Rattle.face.specs.declared.Hot.{Hot}
@@ -60,7 +61,7 @@ use Rattle.device.specs.Host.{aloneFits, shapedOf, memoryLength, stepOf}
 use Rattle.device.specs.Setup.{zeroFace, zeroDevice, freshSettled, freshOf}
 use Rattle.device.specs.declared.Device.{Device}
 use Rattle.device.proofs.Memories.{shaped-disk}
-use Rattle.laws.proofs.Shape.{act-fits, power-on-fits, command-held, read-word-held, write-word-held}
+use Rattle.laws.proofs.Shape.{drop-leaves, act-fits, power-on-fits, command-held, read-word-held, write-word-held}
 
 -- ---- where a transfer is open after a command or a word, the address is the host's
 
@@ -74,32 +75,26 @@ idle e = record { is = inl e }
 stays : {at : AddressRegisters} {f : Face} → f .hot .regs .at ≡ at → Placed at f
 stays e = record { is = inr e }
 
-read-placed : (f : Face) (m : List ℕ) (r : Run) (a : Address) → Placed (f .hot .regs .at) (readAs f m r a)
+not-found-placed : {at : AddressRegisters} (f : Face) (r : Run) → Placed at (notFoundOf f r)
 unfolding notFoundOf
-read-placed f m r (Names x) = stays refl
-read-placed f m r Faults = idle refl
+not-found-placed f r = idle refl
 
-write-placed : (f : Face) (r : Run) (a : Address) → Placed (f .hot .regs .at) (writeAs f r a)
-unfolding notFoundOf
-write-placed f r (Names x) = stays refl
-write-placed f r Faults = idle refl
-
-want-placed : (f : Face) (r : Run) (a : Address) → Placed (f .hot .regs .at) (wantAs f r a)
-unfolding notFoundOf
-want-placed f r (Names x) = stays refl
-want-placed f r Faults = idle refl
+-- a sector is reached: its address names it, or faults
+address-placed : {at : AddressRegisters} (k : Address → Face) → ((x : Sector) → Placed at (k (Names x))) → Placed at (k Faults) → (a : Address) → Placed at (k a)
+address-placed k named faults (Names x) = named x
+address-placed k named faults Faults = faults
 
 read-at-placed : (f : Face) (m : List ℕ) (r : Run) → Placed (f .hot .regs .at) (readAt f m r)
 unfolding readAt
-read-at-placed f m r = read-placed f m r (located (f .settled) (r .at))
+read-at-placed f m r = address-placed (readAs f m r) (λ x. stays refl) (not-found-placed f r) (located (f .settled) (r .at))
 
 write-at-placed : (f : Face) (r : Run) → Placed (f .hot .regs .at) (writeAt f r)
 unfolding writeAt
-write-at-placed f r = write-placed f r (located (f .settled) (r .at))
+write-at-placed f r = address-placed (writeAs f r) (λ x. stays refl) (not-found-placed f r) (located (f .settled) (r .at))
 
 want-at-placed : (f : Face) (r : Run) → Placed (f .hot .regs .at) (wantAt f r)
 unfolding wantAt
-want-at-placed f r = want-placed f r (located (f .settled) (r .at))
+want-at-placed f r = address-placed (wantAs f r) (λ x. stays refl) (not-found-placed f r) (located (f .settled) (r .at))
 
 verify-idle : (f : Face) (r : Run) (rest : Face) (a : Address) → isIdle (rest .hot .transfer) ≡ true → isIdle (verifyAs f r rest a .hot .transfer) ≡ true
 unfolding notFoundOf
@@ -150,22 +145,8 @@ stations-placed f m code =
     (pick-both (Placed (f .hot .regs .at)) (barredOf (decodeOf code) (f .settled .security)) _ _ (abort-placed f code) (run-placed f m (decodeOf code)))
     (abort-placed f code)
 
-drop-purpose-at : (f : Face) (p : Purpose) → dropPurpose f p .hot .regs .at ≡ f .hot .regs .at
-drop-purpose-at f Set = refl
-drop-purpose-at f Unlock = refl
-drop-purpose-at f Erase = refl
-drop-purpose-at f Disable = refl
-
-drop-at : (f : Face) (t : Transfer) → dropAs f t .hot .regs .at ≡ f .hot .regs .at
-drop-at f Idle = refl
-drop-at f (Reading r) = refl
-drop-at f (Writing r) = refl
-drop-at f (ReadingBuffer n) = refl
-drop-at f (WritingBuffer n) = refl
-drop-at f (TakingPassword b) = drop-purpose-at _ (b .purpose)
-
 command-placed : (f : Face) (m : List ℕ) (code : ℕ) → Placed (f .hot .regs .at) (commandOf f m code)
-unfolding commandOf begunOf droppedOf
+unfolding commandOf begunOf
 command-placed f m code =
     pick-both (Placed (f .hot .regs .at)) (f .hot .signals .held) _ _ (stays refl) (go (stations-placed (begunOf f) m code))
   where
@@ -174,7 +155,7 @@ command-placed f m code =
       where
         moved : (isIdle (stationsOf (begunOf f) m code .hot .transfer) ≡ true) ⊎ (stationsOf (begunOf f) m code .hot .regs .at ≡ begunOf f .hot .regs .at) → Placed (f .hot .regs .at) (stationsOf (begunOf f) m code)
         moved (inl e) = idle e
-        moved (inr e) = stays (e ∙ drop-at f (f .hot .transfer))
+        moved (inr e) = stays (e ∙ ap (λ (r : Registers). r .at) (drop-leaves f .regs))
 
 read-word-placed : (f : Face) (m : List ℕ) (t : Transfer) → Placed (f .hot .regs .at) (readWordAs f m t .face)
 unfolding readRunOf readNextOf readBufferWord

@@ -16,7 +16,7 @@ use Rattle.address.specs.declared.AddressRegisters.{AddressRegisters}
 use Rattle.address.specs.declared.Address.{Address}
 use Rattle.address.specs.declared.Address.the-variants.{Names, Faults}
 use Rattle.address.specs.declared.Sector.{Sector}
-use Rattle.lock.specs.Lock.{isOpen, isLocked, isFrozen, securityFits}
+use Rattle.lock.specs.Lock.{unpreparedOf, isOpen, isLocked, isFrozen, securityFits}
 use Rattle.lock.specs.declared.Lock.{Lock}
 use Rattle.lock.specs.declared.Lock.the-variants.{Open, Locked, Frozen}
 use Rattle.lock.specs.declared.Security.{Security}
@@ -33,10 +33,11 @@ use Rattle.codes.specs.declared.Command.the-variants.{Unknown, Recalibrate, Rea
 use Rattle.settled.specs.Settled.{withTranslation, withSecurity, settledFits}
 use Rattle.settled.specs.declared.Settled.{Settled}
 use Rattle.settled.proofs.Clauses.{settled-clauses, clauses-settled}
-use Rattle.face.specs.Face.{withHot}
+use Rattle.face.specs.Face.{withBuffer, withHot}
 use Rattle.face.specs.Reads.{isIdle, readRegister}
 use Rattle.face.specs.Writes.{busyOf, storeRegister, putRegister, srstOf, nienOf}
-use Rattle.face.specs.Resets.{dropPurpose, dropAs, droppedOf, poweredOnFace, softResetOf, controlOf}
+use Rattle.block.specs.Sectors.{zeroBlock}
+use Rattle.face.specs.Resets.{idleFace, dropPurpose, dropAs, droppedOf, poweredOnFace, softResetOf, controlOf}
 use Rattle.face.specs.declared.Run.{Run}
 use Rattle.face.specs.declared.Signals.{Signals}
 use Rattle.face.specs.declared.PasswordBlock.{PasswordBlock}
@@ -186,7 +187,7 @@ command-free f m SecurityDisablePassword u r b = password-free f Disable u (open
 
 -- ---- the stations
 
-unprepared-kept : (s : Settled) → settledFits s ≡ true → settledFits (withSecurity s (record { lock = s .security .lock; enabled = s .security .enabled; maximum = s .security .maximum; attempts = s .security .attempts; prepared = false })) ≡ true
+unprepared-kept : (s : Settled) → settledFits s ≡ true → settledFits (withSecurity s (unpreparedOf (s .security))) ≡ true
 unprepared-kept s e = security-kept s _ e (sound-fits _ (unprepare-sound _ (fits-sound _ (settled-clauses s e .security))))
 
 abort-free : (f : Face) (code : ℕ) → Running f → Free (abortAtOnce f code)
@@ -202,39 +203,37 @@ stations-free f m code u =
     (λ r. pick-each Free (barredOf (decodeOf code) (f .settled .security)) _ _ (λ b. abort-free f code u) (λ b. command-free f m (decodeOf code) u r b))
     (λ r. abort-free f code u)
 
-drop-purpose-sound : (f : Face) (p : Purpose) → settledFits (f .settled) ≡ true → settledFits (dropPurpose f p .settled) ≡ true
-drop-purpose-sound f Set s = s
-drop-purpose-sound f Unlock s = s
-drop-purpose-sound f Erase s = unprepared-kept (f .settled) s
-drop-purpose-sound f Disable s = s
+-- what a drop leaves: registers and signals as they were, and the settled part in shape
+pub record Dropped (f g : Face) : Type 0 where
+  pub regs : g .hot .regs ≡ f .hot .regs
+  pub signals : g .hot .signals ≡ f .hot .signals
+  pub sound : settledFits (f .settled) ≡ true → settledFits (g .settled) ≡ true
 
-drop-sound : (f : Face) (t : Transfer) → settledFits (f .settled) ≡ true → settledFits (dropAs f t .settled) ≡ true
-drop-sound f Idle s = s
-drop-sound f (Reading r) s = s
-drop-sound f (Writing r) s = s
-drop-sound f (ReadingBuffer n) s = s
-drop-sound f (WritingBuffer n) s = s
-drop-sound f (TakingPassword b) s = drop-purpose-sound _ (b .purpose) s
+drop-purpose-leaves : (f : Face) (p : Purpose) → Dropped f (dropPurpose f p)
+drop-purpose-leaves f Set = record { regs = refl; signals = refl; sound = λ e. e }
+drop-purpose-leaves f Unlock = record { regs = refl; signals = refl; sound = λ e. e }
+drop-purpose-leaves f Erase = record { regs = refl; signals = refl; sound = unprepared-kept (f .settled) }
+drop-purpose-leaves f Disable = record { regs = refl; signals = refl; sound = λ e. e }
 
-drop-purpose-signals : (f : Face) (p : Purpose) → dropPurpose f p .hot .signals ≡ f .hot .signals
-drop-purpose-signals f Set = refl
-drop-purpose-signals f Unlock = refl
-drop-purpose-signals f Erase = refl
-drop-purpose-signals f Disable = refl
+drop-as-leaves : (f : Face) (t : Transfer) → Dropped f (dropAs f t)
+drop-as-leaves f Idle = record { regs = refl; signals = refl; sound = λ e. e }
+drop-as-leaves f (Reading r) = record { regs = refl; signals = refl; sound = λ e. e }
+drop-as-leaves f (Writing r) = record { regs = refl; signals = refl; sound = λ e. e }
+drop-as-leaves f (ReadingBuffer n) = record { regs = refl; signals = refl; sound = λ e. e }
+drop-as-leaves f (WritingBuffer n) = record { regs = refl; signals = refl; sound = λ e. e }
+drop-as-leaves f (TakingPassword b) =
+    let d = drop-purpose-leaves (withBuffer (idleFace f) zeroBlock) (b .purpose) in
+    record { regs = d .regs; signals = d .signals; sound = d .sound }
 
-drop-signals : (f : Face) (t : Transfer) → dropAs f t .hot .signals ≡ f .hot .signals
-drop-signals f Idle = refl
-drop-signals f (Reading r) = refl
-drop-signals f (Writing r) = refl
-drop-signals f (ReadingBuffer n) = refl
-drop-signals f (WritingBuffer n) = refl
-drop-signals f (TakingPassword b) = drop-purpose-signals _ (b .purpose)
+pub drop-leaves : (f : Face) → Dropped f (droppedOf f)
+unfolding droppedOf
+drop-leaves f = drop-as-leaves f (f .hot .transfer)
 
 begun-free : (f : Face) (m : List ℕ) (code : ℕ) → Fits f → f .hot .signals .held ≡ false → Free (stationsOf (begunOf f) m code)
-unfolding begunOf droppedOf
+unfolding begunOf
 begun-free f m code k h =
-    stations-free (begunOf f) m code
-    record { sound = drop-sound f (f .hot .transfer) (k .sound); free = ap (λ (s : Signals). s .held) (drop-signals f (f .hot .transfer)) ∙ h }
+    let d = drop-leaves f in
+    stations-free (begunOf f) m code record { sound = d .sound (k .sound); free = ap (λ (s : Signals). s .held) (d .signals) ∙ h }
 
 command-fits : (f : Face) (m : List ℕ) (code : ℕ) → Fits f → Fits (commandOf f m code)
 unfolding commandOf
