@@ -1,5 +1,6 @@
 -- The host's calls: when they are turned away, and else what they do (document 01, "Host actions and when they are turned away").
 use Prim.Native.Nat.{ℕ, _*_}
+use mathlib.Core.Path.{_≡_}
 use mathlib.Core.Bool.{Bool, true, false}
 use mathlib.Core.List.{List}
 use lib.Dec.{eqb}
@@ -25,6 +26,11 @@ shapedOf d = pick (diskFits (d .face)) (aloneFits (d .face .hot)) false
 -- "sector memory is exactly 512 x capacity bytes"
 abbrev pub memoryLength : Device → ℕ
 memoryLength d = 512 * capacityOf (d .face .settled .geometry)
+
+-- neither answer 2 nor answer 3: "state out of shape", "sector memory of wrong length"
+pub record Ready (d : Device) (m : List ℕ) : Type 0 where
+  pub shaped : shapedOf d ≡ true
+  pub long : length m ≡ memoryLength d
 
 -- any host action on any device over any memory: "Order: .. 2, 3, then 1 or 4"
 unfoldable pub stepOf : Device → List ℕ → Action → Step

@@ -36,7 +36,7 @@ pub struct Outcome {
 }
 
 // Only an action that is done has a value.
-fn value_of(answer: Answer, value: u16) -> u16
+pub fn value_of(answer: Answer, value: u16) -> u16
     ensures { λ r. ⌜ r ≡ valueOf answer value ⌝ }
 {
     match answer {

@@ -5,3 +5,4 @@ pub mod Stored
 pub mod Endings
 pub mod Opens
 pub mod ReadBack
+pub mod Built

@@ -22,9 +22,8 @@ use Rattle.transfers.specs.Words.{wordIn}
 use Rattle.disk.specs.Passwords.{sectorsAs, judgedActed, passwordLast, passwordLastSectors, passwordWord, passwordWordSectors}
 use Rattle.disk.specs.Actions.{effect, writeWordAs, writeWordOf, actOf}
 use Rattle.device.specs.Alone.{Step, stepAs, ignoredOf, aloneOf}
-use Rattle.device.specs.Host.{stepOf}
+use Rattle.device.specs.Host.{Ready, stepOf}
 use Rattle.device.specs.declared.Device.{Device}
-use Rattle.laws.proofs.Stored.{Ready}
 
 -- the last word of a password block is on its way
 pub record LastWord (d : Device) (p : Purpose) (b : PasswordBlock) : Type 0 where

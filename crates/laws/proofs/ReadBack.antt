@@ -25,11 +25,11 @@ use Rattle.transfers.specs.Words.{readRunOf, readWordAs, readWordOf, wordIn, wr
 use Rattle.transfers.proofs.Reached.{memory-room}
 use Rattle.disk.specs.Actions.{effect, toldActed, writeWordAs, writeWordOf, actOf}
 use Rattle.device.specs.Alone.{Step, deviceOf, outcome, stepAs, ignoredOf, aloneOf}
-use Rattle.device.specs.Host.{shapedOf, stepOf}
+use Rattle.device.specs.Host.{Ready, shapedOf, stepOf}
 use Rattle.device.specs.declared.Device.{Device}
 use Rattle.device.proofs.Memories.{shaped-memory}
 use Rattle.laws.proofs.Reached.{step-shaped}
-use Rattle.laws.proofs.Stored.{Ready, word-stores}
+use Rattle.laws.proofs.Stored.{word-stores}
 
 -- ---- words in a block
 

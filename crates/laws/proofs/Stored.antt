@@ -24,7 +24,7 @@ use Rattle.transfers.specs.Sectors.{located}
 use Rattle.transfers.specs.Words.{wordIn, storeAs, writeLastSectors, writeRunSectors}
 use Rattle.disk.specs.Actions.{writeWordAs, writeWordOf, actOf}
 use Rattle.device.specs.Alone.{Step, ignoredOf, aloneOf}
-use Rattle.device.specs.Host.{shapedOf, memoryLength, stepOf}
+use Rattle.device.specs.Host.{Ready, shapedOf, memoryLength, stepOf}
 use Rattle.device.specs.declared.Device.{Device}
 
 -- a call keeps the sectors where its action on the disk does
@@ -66,12 +66,7 @@ pub partial-not-stored : (d : Device) (m : List ℕ) (w : ℕ) (r : Run) → d .
 unfolding actOf writeWordOf
 partial-not-stored d m w r e h = step-keeps d m (WriteWord w) (partial-kept (d .face) (d .secrets) m w r (d .face .hot .transfer) e h)
 
--- the device is in shape over memory of its length
-pub record Ready (d : Device) (m : List ℕ) : Type 0 where
-  pub shaped : shapedOf d ≡ true
-  pub long : length m ≡ memoryLength d
-
--- then a data word is the disk's to take
+-- in shape over memory of its length, a data word is the disk's to take
 pub ready-word : (d : Device) (m : List ℕ) (w : ℕ) → Ready d m → stepOf d m (WriteWord w) .sectors ≡ writeWordAs (d .face) (d .secrets) m w (d .face .hot .transfer) .sectors
 unfolding stepOf aloneOf ignoredOf actOf writeWordOf
 ready-word d m w k = simp (k .shaped, eq-eqb _ _ (k .long))

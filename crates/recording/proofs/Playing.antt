@@ -1,0 +1,212 @@
+-- The loop over the records: what it has replied so far, and what is still to come, is the whole part's replay; each record takes it one step on.
+use Prim.Native.Nat.{ℕ, zero, suc, _+_, _-_, _*_, _/_, _≤_, _<_}
+use mathlib.Core.Path.{_≡_, refl, sym, ap, _∙_}
+use mathlib.Core.Bool.{Bool, true, false}
+use mathlib.Core.List.{List, [], _∷_, _++_, append-assoc, append-nil}
+use native.Mathlib.Nat.{add-zero, add-assoc}
+use native.Mathlib.Omega.{arith}
+use lib.ListN.{length, take, drop, length-drop, length-append, take-append-drop}
+use lib.Seq.{sets, take-all, drop-drop, length-take-le}
+use Rattle.base.specs.Choice.{pick}
+use Rattle.face.specs.declared.Action.{Action}
+use Rattle.device.specs.Alone.{Step, aloneOf}
+use Rattle.device.specs.Host.{Ready, stepOf}
+use Rattle.device.specs.declared.Device.{Device}
+use Rattle.device.specs.declared.Outcome.{Outcome}
+use Rattle.records.specs.Records.{nextOf}
+use Rattle.records.specs.Replies.{replyBytes, faultBytes}
+use Rattle.records.specs.declared.Found.{Found}
+use Rattle.records.specs.declared.Found.the-variants.{Record, Nothing, Part, Malformed}
+use Rattle.records.proofs.Stores.{write-behind}
+use Rattle.records.proofs.Sizes.{record-within}
+use Rattle.recording.specs.Replay.{Play, rests, onto, answered, playAs, playOf}
+use Rattle.recording.specs.Parts.{partOf, came, cameOf, Gives, cutStage, cutMade, cutReply}
+use Rattle.recording.specs.declared.Stage.{Stage}
+use Rattle.recording.specs.declared.Stage.the-variants.{Replaying, Over}
+use Rattle.recording.proofs.Steps.{ready-step, ready-after}
+
+-- ---- one record of the definition
+
+pub onto-onto : (k : ℕ) (w : List ℕ) (j : ℕ) (v : List ℕ) (p : Play) → onto k w (onto j v p) ≡ onto (k + j) (w ++ v) p
+onto-onto k w j v p =
+    ap (λ (n : ℕ). record { device = p .device; sectors = p .sectors; taken = n; reply = w ++ (v ++ p .reply); stage = p .stage }) (sym (add-assoc k j (p .taken)))
+    ∙ ap (λ (l : List ℕ). record { device = p .device; sectors = p .sectors; taken = (k + j) + p .taken; reply = l; stage = p .stage }) (sym (append-assoc w v (p .reply)))
+
+play-next : (last : Bool) (n : ℕ) (d : Device) (m l : List ℕ) (x : Found) → 0 < n → nextOf l ≡ x → playOf last n d m l ≡ playAs last d m l (playOf last (n - 1)) x
+unfolding playOf
+play-next last n d m l x h e =
+    let g : n ≡ suc (n - 1) = omega arith in
+    ap (λ (k : ℕ). playOf last k d m l) g ∙ ap (playAs last d m l (playOf last (n - 1))) e
+
+pub play-full : (last : Bool) (n : ℕ) (d : Device) (m l : List ℕ) → n ≤ 0 → playOf last n d m l ≡ rests d m [] Replaying
+unfolding playOf
+play-full last n d m l h = let g : n ≡ 0 = omega arith in ap (λ (k : ℕ). playOf last k d m l) g
+
+pub play-record : (last : Bool) (n : ℕ) (d : Device) (m l : List ℕ) (a : Action) (size : ℕ) (e : Step) → 0 < n → nextOf l ≡ Record a size → stepOf d m a ≡ e
+    → playOf last n d m l ≡ onto size (answered e) (playOf last (n - 1) (e .outcome .device) (e .sectors) (drop size l))
+unfolding playAs
+play-record last n d m l a size e h x g =
+    play-next last n d m l (Record a size) h x
+    ∙ ap (λ (s : Step). onto size (answered s) (playOf last (n - 1) (s .outcome .device) (s .sectors) (drop size l))) g
+
+pub play-nothing : (last : Bool) (n : ℕ) (d : Device) (m l : List ℕ) → 0 < n → nextOf l ≡ Nothing → playOf last n d m l ≡ rests d m [] (cutStage last)
+unfolding playAs
+play-nothing last n d m l h e = play-next last n d m l Nothing h e
+
+-- no whole record is there, and none can come
+fault-play : Bool → Device → List ℕ → Play
+fault-play last d m = pick last (rests d m faultBytes Over) (rests d m [] Replaying)
+
+play-part : (last : Bool) (n : ℕ) (d : Device) (m l : List ℕ) → 0 < n → nextOf l ≡ Part → playOf last n d m l ≡ fault-play last d m
+unfolding playAs fault-play
+play-part last n d m l h e = play-next last n d m l Part h e
+
+play-malformed : (last : Bool) (n : ℕ) (d : Device) (m l : List ℕ) → 0 < n → nextOf l ≡ Malformed → playOf last n d m l ≡ fault-play true d m
+unfolding playAs fault-play
+play-malformed last n d m l h e = play-next last n d m l Malformed h e
+
+-- ---- the loop
+
+-- of `whole`, the records before place `at` are replayed into out₀ up to `put`; n more fit
+pub record Playing (whole : Play) (last : Bool) (l out₀ : List ℕ) (memory : ℕ) (n : ℕ) (d : Device) (m out : List ℕ) (at put : ℕ) : Type 0 where
+  pub wrote : List ℕ
+  pub is : out ≡ wrote ++ drop put out₀
+  pub long : length wrote ≡ put
+  pub room : put + 5 * n ≤ length out₀
+  pub all : length out ≡ length out₀
+  pub below : at ≤ length l
+  pub ready : Ready d m
+  pub same : length m ≡ memory
+  pub plays : whole ≡ onto at wrote (playOf last n d m (drop at l))
+
+pub playing-none : (last : Bool) (d : Device) (m l out : List ℕ) (from : ℕ) → Ready d m → from ≤ length l → from ≤ length out
+    → Playing (partOf last d m l from out) last l out (length m) ((length out - from) / 5) d m out from from
+playing-none last d m l out from r h g =
+    record {
+      wrote = take from out;
+      is = sym (take-append-drop from out);
+      long = length-take-le from out g;
+      room = omega arith;
+      all = refl;
+      below = h;
+      ready = r;
+      same = refl;
+      plays = refl;
+    }
+
+pub playing-more : {w : Play} {last : Bool} {l out₀ : List ℕ} {k n : ℕ} {d : Device} {m out : List ℕ} {at put : ℕ}
+    → Playing w last l out₀ k n d m out at put → 0 < n → (a : Action) (size : ℕ) → nextOf (drop at l) ≡ Record a size
+    → (e : Step) → aloneOf d m a ≡ e → length (e .sectors) ≡ length m → (out′ : List ℕ) → out′ ≡ sets out put (answered e)
+    → Playing w last l out₀ k (n - 1) (e .outcome .device) (e .sectors) out′ (at + size) (put + 5)
+playing-more {w} {last} {l} {out₀} {k} {n} {d} {m} {out} {at} {put} p h a size x e g q out′ o =
+    let r : put + 5 * n ≤ length out₀ = p .room in
+    let y : out′ ≡ (p .wrote ++ answered e) ++ drop (put + 5) out₀ = o ∙ write-behind (p .wrote) out out₀ (answered e) put (p .is) (p .long) (omega arith) in
+    let z : length (p .wrote ++ answered e) ≡ put + 5 = length-append (p .wrote) (answered e) ∙ ap (λ (i : ℕ). i + 5) (p .long) in
+    let b : at ≤ length l = p .below in
+    let v : size ≤ length l - at = within (record-within (drop at l) a size x .1) in
+    record {
+      wrote = p .wrote ++ answered e;
+      is = y;
+      long = z;
+      room = omega arith;
+      all = ap length y ∙ length-append (p .wrote ++ answered e) (drop (put + 5) out₀) ∙ simp (z, length-drop) (omega arith);
+      below = omega arith;
+      ready = ready-after d m a e (p .ready) g q;
+      same = q ∙ p .same;
+      plays =
+          p .plays
+          ∙ ap (onto at (p .wrote)) (play-record last n d m (drop at l) a size e h x (ready-step d m a (p .ready) ∙ g))
+          ∙ onto-onto at (p .wrote) size (answered e) _
+          ∙ ap (λ (i : List ℕ). onto (at + size) (p .wrote ++ answered e) (playOf last (n - 1) (e .outcome .device) (e .sectors) i)) (drop-drop size at l);
+    }
+  where
+    within : size ≤ length (drop at l) → size ≤ length l - at
+    within i = rw length-drop at i
+
+-- a record that went the long way
+pub playing-after : {w : Play} {last : Bool} {l out₀ : List ℕ} {k n : ℕ} {d : Device} {m out : List ℕ} {at put : ℕ}
+    → Playing w last l out₀ k n d m out at put → 0 < n → (a : Action) (size : ℕ) → nextOf (drop at l) ≡ Record a size
+    → (o : Outcome) (m′ : List ℕ) → o ≡ aloneOf d m a .outcome → m′ ≡ aloneOf d m a .sectors → length m′ ≡ length m
+    → (out′ : List ℕ) → out′ ≡ sets out put (replyBytes (o .number) (o .value))
+    → Playing w last l out₀ k (n - 1) (o .device) m′ out′ (at + size) (put + 5)
+playing-after {d = d} {m = m} p h a size x o m′ f g q out′ e =
+    playing-more p h a size x (record { outcome = o; sectors = m′ })
+    (ap (λ (i : Outcome). record { outcome = i; sectors = aloneOf d m a .sectors }) (sym f) ∙ ap (λ (i : List ℕ). record { outcome = o; sectors = i }) (sym g))
+    q out′ e
+
+-- the same device, said otherwise
+pub playing-as : {w : Play} {last : Bool} {l out₀ : List ℕ} {k n : ℕ} {d : Device} {m out : List ℕ} {at put : ℕ}
+    → Playing w last l out₀ k n d m out at put → (d′ : Device) → d′ ≡ d → Playing w last l out₀ k n d′ m out at put
+playing-as p d′ e = rw e p
+
+-- what the rest of the recording, lent as a part of it, starts with
+pub rest-starts : (l : List ℕ) (at : ℕ) (r x : Found) → r ≡ nextOf (take (length l - at) (drop at l)) → r ≡ x → nextOf (drop at l) ≡ x
+rest-starts l at r x e g =
+    let h : take (length l - at) (drop at l) ≡ drop at l = take-all (length l - at) (drop at l) (rw length-drop (omega arith)) in
+    sym (ap nextOf h) ∙ sym e ∙ g
+
+-- a record lies within the rest
+pub rest-within : (l : List ℕ) (at : ℕ) (a : Action) (size : ℕ) → nextOf (drop at l) ≡ Record a size → size ≤ length l - at
+rest-within l at a size e = go (record-within (drop at l) a size e .1)
+  where
+    go : size ≤ length (drop at l) → size ≤ length l - at
+    go i = rw length-drop at i
+
+-- ---- its ends
+
+-- the loop stops with nothing more to write
+pub playing-rests : {w : Play} {last : Bool} {l out₀ : List ℕ} {k n : ℕ} {d : Device} {m out : List ℕ} {at put : ℕ}
+    → Playing w last l out₀ k n d m out at put → (stage : Stage) → playOf last n d m (drop at l) ≡ rests d m [] stage
+    → Gives w (came d stage at put) m out₀ out
+playing-rests {w} {last} {l} {out₀} {k} {n} {d} {m} {out} {at} {put} p stage e =
+    let q : w ≡ record { device = d; sectors = m; taken = at; reply = p .wrote; stage = stage } =
+    p .plays ∙ ap (onto at (p .wrote)) e
+    ∙ ap (λ (i : ℕ). record { device = d; sectors = m; taken = i; reply = p .wrote ++ []; stage = stage }) (add-zero at)
+    ∙ ap (λ (i : List ℕ). record { device = d; sectors = m; taken = at; reply = i; stage = stage }) (append-nil (p .wrote)) in
+    record {
+      result = ap (came d stage at) (sym (p .long)) ∙ sym (ap cameOf q);
+      sectors = ap (λ (x : Play). x .sectors) (sym q);
+      reply = p .is ∙ ap (λ (i : ℕ). p .wrote ++ drop i out₀) (sym (p .long)) ∙ ap (λ (x : Play). x .reply ++ drop (length (x .reply)) out₀) (sym q);
+      ready = p .ready;
+    }
+
+-- the loop stops at a fault
+playing-fault : {w : Play} {last : Bool} {l out₀ : List ℕ} {k n : ℕ} {d : Device} {m out : List ℕ} {at put : ℕ}
+    → Playing w last l out₀ k n d m out at put → 0 < n → playOf last n d m (drop at l) ≡ rests d m faultBytes Over
+    → (out′ : List ℕ) → out′ ≡ sets out put faultBytes → Gives w (came d Over at (put + 3)) m out₀ out′
+playing-fault {w} {last} {l} {out₀} {k} {n} {d} {m} {out} {at} {put} p h e out′ o =
+    let x : put + 5 * n ≤ length out₀ = p .room in
+    let z : length (p .wrote ++ faultBytes) ≡ put + 3 = length-append (p .wrote) faultBytes ∙ ap (λ (i : ℕ). i + 3) (p .long) in
+    let q : w ≡ record { device = d; sectors = m; taken = at; reply = p .wrote ++ faultBytes; stage = Over } =
+    p .plays ∙ ap (onto at (p .wrote)) e
+    ∙ ap (λ (i : ℕ). record { device = d; sectors = m; taken = i; reply = p .wrote ++ faultBytes; stage = Over }) (add-zero at) in
+    record {
+      result = ap (came d Over at) (sym z) ∙ sym (ap cameOf q);
+      sectors = ap (λ (v : Play). v .sectors) (sym q);
+      reply =
+          o ∙ write-behind (p .wrote) out out₀ faultBytes put (p .is) (p .long) (omega arith)
+          ∙ ap (λ (i : ℕ). (p .wrote ++ faultBytes) ++ drop i out₀) (sym z)
+          ∙ ap (λ (v : Play). v .reply ++ drop (length (v .reply)) out₀) (sym q);
+      ready = p .ready;
+    }
+
+-- no whole record is there: the loop stops, at a fault where none can come
+playing-cut : {w : Play} {last : Bool} {l out₀ : List ℕ} {k n : ℕ} {d : Device} {m out : List ℕ} {at put : ℕ}
+    → Playing w last l out₀ k n d m out at put → 0 < n → (b : Bool) → playOf last n d m (drop at l) ≡ fault-play b d m
+    → (out′ : List ℕ) → out′ ≡ cutReply b out put → Gives w (came d (cutStage b) at (cutMade b put)) m out₀ out′
+unfolding cutReply cutMade fault-play
+playing-cut p h true e out′ o = playing-fault p h e out′ o
+playing-cut {out₀ = out₀} {m = m} p h false e out′ o = go (playing-rests p Replaying e) o
+  where
+    go : {w : Play} {r : _} {out : List ℕ} → Gives w r m out₀ out → out′ ≡ out → Gives w r m out₀ out′
+    go g i = rw i g
+
+pub playing-part : {w : Play} {last : Bool} {l out₀ : List ℕ} {k n : ℕ} {d : Device} {m out : List ℕ} {at put : ℕ}
+    → Playing w last l out₀ k n d m out at put → 0 < n → nextOf (drop at l) ≡ Part
+    → (out′ : List ℕ) → out′ ≡ cutReply last out put → Gives w (came d (cutStage last) at (cutMade last put)) m out₀ out′
+playing-part {last = last} p h e out′ o = playing-cut p h last (play-part _ _ _ _ _ h e) out′ o
+
+pub playing-malformed : {w : Play} {last : Bool} {l out₀ : List ℕ} {k n : ℕ} {d : Device} {m out : List ℕ} {at put : ℕ}
+    → Playing w last l out₀ k n d m out at put → 0 < n → nextOf (drop at l) ≡ Malformed
+    → (out′ : List ℕ) → out′ ≡ cutReply true out put → Gives w (came d (cutStage true) at (cutMade true put)) m out₀ out′
+playing-malformed p h e out′ o = playing-cut p h true (play-malformed _ _ _ _ _ h e) out′ o

@@ -1,0 +1,53 @@
+-- What the loop over the records promises to the turn that calls it.
+use Prim.Native.Nat.{ℕ, _+_, _-_, _/_}
+use mathlib.Core.Bool.{Bool}
+use mathlib.Core.Path.{_≡_}
+use mathlib.Core.List.{List, _++_}
+use lib.ListN.{length, take, drop}
+use lib.Seq.{sets}
+use Rattle.base.specs.Choice.{pick}
+use Rattle.face.specs.Face.{withHot, withBuffer}
+use Rattle.face.specs.declared.Hot.{Hot}
+use Rattle.device.specs.Alone.{deviceOf}
+use Rattle.device.specs.Host.{Ready}
+use Rattle.device.specs.declared.Device.{Device}
+use Rattle.records.specs.Replies.{faultBytes}
+use Rattle.recording.specs.Replay.{Play, onto, playOf}
+use Rattle.recording.specs.declared.Came.{Came}
+use Rattle.recording.specs.declared.Stage.{Stage}
+use Rattle.recording.specs.declared.Stage.the-variants.{Replaying, Over}
+
+-- the device, of which the loop holds the hot part and the buffer apart
+abbrev pub wholeOf : Device → Hot → List ℕ → Device
+wholeOf d h b = deviceOf (withHot (withBuffer (d .face) b) h) (d .secrets)
+
+-- the records from place `from` on, behind the reply's first `from` bytes
+abbrev pub partOf : Bool → Device → List ℕ → List ℕ → ℕ → List ℕ → Play
+partOf last d m l from out = onto from (take from out) (playOf last ((length out - from) / 5) d m (drop from l))
+
+-- a result of these parts
+abbrev pub came : Device → Stage → ℕ → ℕ → Came
+came d stage taken made = record { device = d; stage = stage; taken = taken; made = made }
+
+-- how far that part came
+abbrev pub cameOf : Play → Came
+cameOf p = came (p .device) (p .stage) (p .taken) (length (p .reply))
+
+-- the result, every sector and every byte of the lent reply are what the part gives, and the device is still in shape over its memory
+pub record Gives (p : Play) (r : Came) (m out₀ out : List ℕ) : Type 0 where
+  pub result : r ≡ cameOf p
+  pub sectors : m ≡ p .sectors
+  pub reply : out ≡ p .reply ++ drop (length (p .reply)) out₀
+  pub ready : Ready (r .device) m
+
+-- a record that is cut short ends the replay where no byte comes any more
+abbrev pub cutStage : Bool → Stage
+cutStage last = pick last Over Replaying
+
+-- and then adds the fault to the reply
+unfoldable pub cutMade : Bool → ℕ → ℕ
+cutMade last put = pick last (put + 3) put
+
+-- from `put` on
+unfoldable pub cutReply : Bool → List ℕ → ℕ → List ℕ
+cutReply last out put = pick last (sets out put faultBytes) out

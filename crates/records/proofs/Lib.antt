@@ -1,0 +1,3 @@
+pub mod Stores
+pub mod Sizes
+pub mod Prefixes

@@ -1,0 +1,59 @@
+-- A record has at least three bytes, and they are all there.
+use Prim.Native.Nat.{ℕ, _≤_}
+use mathlib.Core.Bool.{Bool, true, false}
+use mathlib.Core.Path.{_≡_, sym, _∙_}
+use mathlib.Core.List.{List}
+use native.Mathlib.Omega.{arith}
+use lib.Dec.{ltb, eqb}
+use lib.ListN.{length, getD}
+use borrow.Author.Tests.{ltb-false}
+use Rattle.base.specs.Choice.{pick}
+use Rattle.base.proofs.Tests.{pick-both, pick-each}
+use Rattle.face.specs.declared.Action.{Action}
+use Rattle.records.specs.declared.Found.{Found}
+use Rattle.records.specs.declared.Found.the-variants.{Record, Nothing, Part, Malformed}
+use Rattle.records.specs.Records.{oneByte, twoBytes, threeBytes, payloadOf, nextOf}
+
+-- a record's size lies between two bounds
+abbrev pub Within : ℕ → ℕ → Found → Type 0
+Within low high (Record a size) = (low ≤ size) × (size ≤ high)
+Within low high Nothing = Unit
+Within low high Part = Unit
+Within low high Malformed = Unit
+
+sized-within : (n size : ℕ) (x : Found) → (size ≤ n → Within 3 n x) → Within 3 n (pick (ltb n size) Part x)
+sized-within n size x p = pick-each (Within 3 n) (ltb n size) Part x (λ h. tt) (λ h. p (ltb-false _ _ h))
+
+one-within : (n kind : ℕ) → 3 ≤ n → Within 3 n (oneByte kind)
+unfolding oneByte
+one-within n kind h =
+    pick-both (Within 3 n) (eqb kind 3) _ _ (omega arith, h)
+    (pick-both (Within 3 n) (eqb kind 5) _ _ (omega arith, h)
+    (pick-both (Within 3 n) (eqb kind 6) _ _ (omega arith, h)
+    (pick-both (Within 3 n) (eqb kind 7) _ _ (omega arith, h) tt)))
+
+two-within : (n kind x : ℕ) → 4 ≤ n → Within 3 n (twoBytes kind x)
+unfolding twoBytes
+two-within n kind x h = pick-both (Within 3 n) (eqb kind 1) _ _ (omega arith, h) tt
+
+three-within : (n kind x y : ℕ) → 5 ≤ n → Within 3 n (threeBytes kind x y)
+unfolding threeBytes
+three-within n kind x y h =
+    pick-both (Within 3 n) (eqb kind 4) _ _ (omega arith, h) (pick-both (Within 3 n) (eqb kind 2) _ _ (omega arith, h) tt)
+
+payload-within : (k : ℕ) (l : List ℕ) → Within 3 (length l) (payloadOf k l)
+unfolding payloadOf
+payload-within k l =
+    pick-both (Within 3 (length l)) (eqb k 1) _ _ (sized-within (length l) 3 _ (one-within (length l) (getD l 2 0)))
+    (pick-both (Within 3 (length l)) (eqb k 2) _ _ (sized-within (length l) 4 _ (two-within (length l) (getD l 2 0) (getD l 3 0)))
+    (pick-both (Within 3 (length l)) (eqb k 3) _ _ (sized-within (length l) 5 _ (three-within (length l) (getD l 2 0) (getD l 3 0) (getD l 4 0))) tt))
+
+next-within : (l : List ℕ) → Within 3 (length l) (nextOf l)
+unfolding nextOf
+next-within l =
+    pick-both (Within 3 (length l)) (ltb (length l) 1) _ _ tt
+    (pick-both (Within 3 (length l)) (ltb (length l) 2) _ _ tt
+    (pick-both (Within 3 (length l)) (eqb (getD l 0 0) 0) _ _ (payload-within (getD l 1 0) l) tt))
+
+pub record-within : (l : List ℕ) (a : Action) (size : ℕ) → nextOf l ≡ Record a size → (3 ≤ size) × (size ≤ length l)
+record-within l a size e = rw e at (next-within l)
