@@ -44,7 +44,7 @@ KIT = {
     'mathlib.Core.List': 'List [] _∷_ _++_',
     'Prim.Native.Nat': 'ℕ _+_ _-_ _*_ _/_ _%_ _≤_ _<_',
     'lib.ListN': 'length getD take drop set replicate length-set length-take length-drop',
-    'lib.Seq': 'paste length-take-le',
+    'lib.Seq': 'paste length-take-le sets length-sets',
 }
 
 

@@ -1,2 +1,5 @@
-pub mod Steps
-pub mod Playing
+pub mod Keeping
+pub mod Opening
+pub mod Taking
+pub mod Whole
+pub mod Streaming

@@ -1,35 +1,19 @@
-// Recordings: a replay, in turns over lent memory.
+// Recordings: a replay in turns over lent memory, and of a whole recording at once.
 ghost use mathlib.Core.Path.{_≡_};
-ghost use mathlib.Core.Bool.{true, false};
-ghost use mathlib.Core.List.{List, [], _∷_, _++_};
-ghost use Prim.Native.Nat.{_+_, _-_, _/_, _≤_};
+ghost use mathlib.Core.List.{_++_};
+ghost use Prim.Native.Nat.{_≤_};
 ghost use lib.ListN.{length, take, drop};
 ghost use lib.Seq.{sets};
-ghost use Rattle.face.specs.Reads.{numberOf};
-ghost use Rattle.device.specs.Alone.{deviceOf, valueOf};
 ghost use Rattle.device.specs.Host.{Ready};
-ghost use Rattle.records.specs.Replies.{replyBytes};
-ghost use Rattle.recording.specs.Replay.{spaces, playOf, onto, versionFault};
-ghost use Rattle.recording.specs.Turns.{startOf, openOf, turnAs, turnOf};
-ghost use Rattle.recording.specs.Parts.{wholeOf, partOf, came, Gives, cutStage, cutMade, cutReply};
+ghost use Rattle.playback.specs.Replay.{spaces, versionFault};
+ghost use Rattle.playback.specs.Parts.{Gives};
+ghost use Rattle.recording.specs.Turns.{startOf, turnAs, leastOf, takenOf, awayOf, turnOf, Leaves, wholePlay, replayedOf};
 use device::Device;
-use face::Action;
 use face::Answer;
-use face::Face;
-use face::Hot;
-use face::Quick;
-use face::Seen;
-use lock::Secrets;
-use records::Found;
+use geometry::Geometry;
+use playback::Came;
+use playback::Stage;
 use settled::Identity;
-use settled::Settled;
-
-// Where a replay stands: before its version byte, among its records, or at its end.
-pub enum Stage {
-    Opening,
-    Replaying,
-    Over,
-}
 
 // A replay between two turns.
 pub struct Stream {
@@ -45,109 +29,200 @@ pub struct Turn {
     pub made: usize,
 }
 
-// How far a part of a recording came.
-struct Came {
-    device: Device,
+// What the replay of a whole recording gives: the answer's number, how many bytes the reply has, and whether that is all of it.
+pub struct Replayed {
+    pub number: u8,
+    pub made: usize,
+    pub whole: bool,
+}
+
+// A recording without its version byte.
+fn version_fault(out: &mut [u8])
+    requires { ⌜ 4 ≤ length (now out) ⌝ }
+    ensures { λ _. ⌜ now (out .exit) ≡ sets (now (out .entry)) 0 versionFault ⌝ }
+{
+    out[0] = 1;
+    records::fault(out, 1);
+}
+
+// The version byte, where there is one, and the records behind it.
+fn begin(device: Device, sectors: &mut [u8], rec: &[u8], last: bool, out: &mut [u8]) -> Came
+    requires { ⌜ Ready device (now sectors) ⌝ }
+    ensures { λ r. ⌜ Gives (turnAs Stage.Opening last (length (now (out .entry))) device (now (sectors .entry)) (now (rec .entry))) r (now (sectors .exit)) (now (out .entry)) (now (out .exit)) ⌝ }
+{
+    if out.len() < 4 {
+        return playback::halt(device, Stage::Opening, 0, 0);
+    }
+    if rec.len() < 1 {
+        if last {
+            version_fault(out);
+            return playback::halt(device, Stage::Over, 0, 4);
+        }
+        return playback::halt(device, Stage::Opening, 0, 0);
+    }
+    let version = rec[0];
+    if version == 1 {
+        out[0] = 1;
+        return playback::play(device, sectors, rec, 1, last, out);
+    }
+    version_fault(out);
+    playback::halt(device, Stage::Over, 0, 4)
+}
+
+// How far the bytes bring a replay that stands there.
+fn part(
     stage: Stage,
-    taken: usize,
-    made: usize,
-}
-
-// The device, of which the loop holds the hot part and the buffer apart.
-fn whole(mut device: Device, hot: Hot, buffer: [u8; 512]) -> Device
-    ensures { λ r. ⌜ r ≡ wholeOf device hot buffer ⌝ }
-{
-    let face = device.face;
-    device.face = face.with_buffer(buffer).with_hot(hot);
-    device
-}
-
-// The reply to a record that the fast path settled.
-fn answer(out: &mut [u8], put: usize, seen: Seen)
-    requires { ⌜ put + 5 ≤ length (now out) ⌝ }
-    ensures { λ _. ⌜ now (out .exit) ≡ sets (now (out .entry)) put (replyBytes (numberOf (seen .answer)) (valueOf (seen .answer) (seen .value))) ⌝ }
-{
-    let answer = seen.answer;
-    let number = answer.number();
-    let value = device::value_of(answer, seen.value);
-    records::reply(out, put, number, value);
-}
-
-fn ended(last: bool) -> Stage
-    ensures { λ r. ⌜ r ≡ cutStage last ⌝ }
-{
-    if last {
-        return Stage::Over;
-    }
-    Stage::Replaying
-}
-
-fn halt(device: Device, stage: Stage, taken: usize, made: usize) -> Came
-    ensures { λ r. ⌜ r ≡ came device stage taken made ⌝ }
-{
-    Came {
-        device,
-        stage,
-        taken,
-        made,
-    }
-}
-
-// The bytes go on with no whole record: a fault, where no more of them come.
-fn cut(device: Device, last: bool, out: &mut [u8], at: usize, put: usize) -> Came
-    requires { ⌜ put + 3 ≤ length (now out) ⌝ }
-    ensures { λ r. ⌜ (r ≡ came device (cutStage last) at (cutMade last put)) × (now (out .exit) ≡ cutReply last (now (out .entry)) put) ⌝ }
-{
-    if last {
-        records::fault(out, put);
-        return halt(device, Stage::Over, at, put + 3);
-    }
-    halt(device, Stage::Replaying, at, put)
-}
-
-// Replays whole records from place `from` on, until the reply is full or the bytes are used up.
-fn play(
-    mut device: Device,
+    device: Device,
     sectors: &mut [u8],
     rec: &[u8],
-    from: usize,
     last: bool,
     out: &mut [u8],
 ) -> Came
-    requires { ⌜ Ready device (now sectors) × ((from ≤ length (now rec)) × (from ≤ length (now out))) ⌝ }
-    ensures { λ r. ⌜ Gives (partOf last device (now (sectors .entry)) (now (rec .entry)) from (now (out .entry))) r (now (sectors .exit)) (now (out .entry)) (now (out .exit)) ⌝ }
+    requires { ⌜ Ready device (now sectors) ⌝ }
+    ensures { λ r. ⌜ Gives (turnAs stage last (length (now (out .entry))) device (now (sectors .entry)) (now (rec .entry))) r (now (sectors .exit)) (now (out .entry)) (now (out .exit)) ⌝ }
 {
-    let face = device.face;
-    let mut hot = face.hot;
-    let mut buffer = face.buffer;
-    let mut at = from;
-    let mut put = from;
-    let mut left = (out.len() - from) / 5;
-    while 0 < left {
-        left -= 1;
-        match records::next(&rec[at..]) {
-            Found::Record(action, size) => match device::quick(hot, &mut buffer, action) {
-                Quick::Settles(seen) => {
-                    hot = seen.hot;
-                    answer(out, put, seen);
-                    put = put + 5;
-                    at = at + size;
-                }
-                Quick::Slow => {
-                    let outcome = whole(device, hot, buffer).act(action, sectors);
-                    device = outcome.device;
-                    let face = device.face;
-                    hot = face.hot;
-                    buffer = face.buffer;
-                    records::reply(out, put, outcome.number, outcome.value);
-                    put = put + 5;
-                    at = at + size;
-                }
-            },
-            Found::Nothing => return halt(whole(device, hot, buffer), ended(last), at, put),
-            Found::Part => return cut(whole(device, hot, buffer), last, out, at, put),
-            Found::Malformed => return cut(whole(device, hot, buffer), true, out, at, put),
+    match stage {
+        Stage::Opening => begin(device, sectors, rec, last, out),
+        Stage::Replaying => playback::play(device, sectors, rec, 0, last, out),
+        Stage::Over => playback::halt(device, Stage::Over, 0, 0),
+    }
+}
+
+// The bytes from `from` up to `to` move to the front.
+fn keep(window: &mut [u8], from: usize, to: usize)
+    requires { ⌜ (from ≤ to) × (to ≤ length (now window)) ⌝ }
+    ensures { λ _. ⌜ now (window .exit) ≡ sets (now (window .entry)) 0 (drop from (take to (now (window .entry)))) ⌝ }
+{
+    let size = to - from;
+    let mut moved = 0;
+    while moved < size {
+        window[moved] = window[from + moved];
+        moved += 1;
+    }
+}
+
+// No more bytes are held than the window has.
+fn least(held: usize, size: usize) -> usize
+    ensures { λ r. ⌜ r ≡ leastOf held size ⌝ }
+{
+    if size < held {
+        return size;
+    }
+    held
+}
+
+fn spaces() -> Identity
+    ensures { λ r. ⌜ r ≡ spaces ⌝ }
+{
+    let serial = [0x20u8; 20];
+    let firmware = [0x20u8; 8];
+    let model = [0x20u8; 40];
+    Identity {
+        serial,
+        firmware,
+        model,
+    }
+}
+
+impl Stream {
+    // A replay before its first byte.
+    pub fn start() -> Stream
+        ensures { λ r. ⌜ r ≡ startOf ⌝ }
+    {
+        let identity = spaces();
+        let master = lock::no_password();
+        let outcome = Device::setup(4, 2, 8, identity, master);
+        let device = outcome.device;
+        Stream {
+            device,
+            stage: Stage::Opening,
         }
     }
-    halt(whole(device, hot, buffer), Stage::Replaying, at, put)
+
+    fn turned_away(self, held: usize, answer: Answer) -> Turn
+        ensures { λ r. ⌜ r ≡ awayOf self held answer ⌝ }
+    {
+        Turn {
+            number: answer.number(),
+            stream: self,
+            held,
+            made: 0,
+        }
+    }
+
+    // A turn of a device in shape over its memory.
+    fn taken(
+        self,
+        sectors: &mut [u8],
+        window: &mut [u8],
+        held: usize,
+        last: bool,
+        out: &mut [u8],
+    ) -> Turn
+        requires { ⌜ Ready (self .device) (now sectors) ⌝ }
+        ensures { λ r. ⌜ Leaves (takenOf (now (window .entry)) (take held (now (window .entry))) (turnAs (self .stage) last (length (now (out .entry))) (self .device) (now (sectors .entry)) (take held (now (window .entry))))) r (now (sectors .exit)) (now (window .exit)) (now (out .entry)) (now (out .exit)) ⌝ }
+    {
+        let stage = self.stage;
+        let end = least(held, window.len());
+        let p = part(stage, self.device, sectors, &window[..end], last, out);
+        let from = p.taken;
+        keep(window, from, end);
+        let device = p.device;
+        let stage = p.stage;
+        Turn {
+            number: 0,
+            stream: Stream { device, stage },
+            held: end - from,
+            made: p.made,
+        }
+    }
+
+    // One turn: the first `held` bytes of the window, into `out`; `last` where no byte comes behind them.
+    pub fn turn(
+        self,
+        sectors: &mut [u8],
+        window: &mut [u8],
+        held: usize,
+        last: bool,
+        out: &mut [u8],
+    ) -> Turn
+        ensures { λ r. ⌜ Leaves (turnOf self (now (sectors .entry)) (now (window .entry)) held last (length (now (out .entry)))) r (now (sectors .exit)) (now (window .exit)) (now (out .entry)) (now (out .exit)) ⌝ }
+    {
+        let device = self.device;
+        let face = device.face;
+        let settled = face.settled;
+        let geometry = settled.geometry;
+        if device.shaped() {
+            if sectors.len() == 512 * (geometry.capacity() as usize) {
+                return self.taken(sectors, window, held, last, out);
+            }
+            return self.turned_away(held, Answer::WrongLength);
+        }
+        self.turned_away(held, Answer::OutOfShape)
+    }
+}
+
+// The reply to a whole recording, over memory of 64 sectors that is cleared first, as far as there is room for it.
+pub fn replay(rec: &[u8], sectors: &mut [u8], out: &mut [u8]) -> Replayed
+    ensures { λ r. ⌜ (r ≡ replayedOf (now (rec .entry)) (now (sectors .entry)) (length (now (out .entry))))
+        × ((now (sectors .exit) ≡ wholePlay (now (rec .entry)) (now (sectors .entry)) (length (now (out .entry))) .sectors)
+        × (now (out .exit) ≡ wholePlay (now (rec .entry)) (now (sectors .entry)) (length (now (out .entry))) .reply ++ drop (r .made) (now (out .entry)))) ⌝ }
+{
+    if sectors.len() == 32768 {
+        block::zero(sectors);
+        let stream = Stream::start();
+        let stage = stream.stage;
+        let p = part(stage, stream.device, sectors, rec, true, out);
+        let stage = p.stage;
+        return Replayed {
+            number: 0,
+            made: p.made,
+            whole: stage.over(),
+        };
+    }
+    Replayed {
+        number: 3,
+        made: 0,
+        whole: false,
+    }
 }

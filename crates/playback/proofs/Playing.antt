@@ -19,11 +19,11 @@ use Rattle.records.specs.declared.Found.{Found}
 use Rattle.records.specs.declared.Found.the-variants.{Record, Nothing, Part, Malformed}
 use Rattle.records.proofs.Stores.{write-behind}
 use Rattle.records.proofs.Sizes.{record-within}
-use Rattle.recording.specs.Replay.{Play, rests, onto, answered, playAs, playOf}
-use Rattle.recording.specs.Parts.{partOf, came, cameOf, Gives, cutStage, cutMade, cutReply}
-use Rattle.recording.specs.declared.Stage.{Stage}
-use Rattle.recording.specs.declared.Stage.the-variants.{Replaying, Over}
-use Rattle.recording.proofs.Steps.{ready-step, ready-after}
+use Rattle.playback.specs.Replay.{Play, rests, onto, answered, playAs, playOf}
+use Rattle.playback.specs.Parts.{partOf, came, cameOf, Gives, cutStage, cutMade, cutReply}
+use Rattle.playback.specs.declared.Stage.{Stage}
+use Rattle.playback.specs.declared.Stage.the-variants.{Replaying, Over}
+use Rattle.playback.proofs.Steps.{ready-step, ready-after}
 
 -- ---- one record of the definition
 

@@ -1,14 +1,14 @@
 -- What is replied and what is still to come are the part's replay; each record takes it one step on.
 use Rattle.device.proofs.FastStep.{quick-settles, quick-slow}
 use Rattle.device.proofs.Memories.{shaped-memory}
-use Rattle.recording.proofs.Playing.{Playing, play-full, play-nothing, playing-after, playing-as, playing-malformed, playing-more, playing-none, playing-part, playing-rests, rest-starts, rest-within}
-use Rattle.recording.specs.Parts.{partOf, wholeOf}
+use Rattle.playback.proofs.Playing.{Playing, play-full, play-nothing, playing-after, playing-as, playing-malformed, playing-more, playing-none, playing-part, playing-rests, rest-starts, rest-within}
+use Rattle.playback.specs.Parts.{partOf, wholeOf}
 use borrow.Author.Needs.{needs}
 use lib.ListN.{length}
 use mathlib.Core.Path.{_∙_, ap, refl, sym}
 use native.Mathlib.Omega.{arith}
-use Rattle.recording.proofs.play.Statement.{statement}
-use Rattle.recording.proofs.play.Tie as tie
+use Rattle.playback.proofs.play.Statement.{statement}
+use Rattle.playback.proofs.play.Tie as tie
 
 abbrev Inv-loop : tie.InvT-loop
 Inv-loop device₀ sectors₀ rec from last out₀ hot₀ buffer₀ at₀ put₀ left₀ device sectors out hot buffer at put left = Playing (partOf last device₀ sectors₀ rec from out₀) last rec out₀ (length sectors₀) left (wholeOf device hot buffer) sectors out at put

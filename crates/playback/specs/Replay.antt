@@ -1,6 +1,6 @@
 -- The replay of a recording (document 01, "Replay"): each record is a host action, and the first fault ends it.
 use Prim.Native.Nat.{ℕ, zero, suc, _+_, _*_}
-use mathlib.Core.Bool.{Bool, true}
+use mathlib.Core.Bool.{Bool, true, false}
 use mathlib.Core.List.{List, [], _∷_, _++_}
 use lib.Dec.{eqb}
 use lib.ListN.{length, drop, replicate}
@@ -15,8 +15,8 @@ use Rattle.records.specs.Records.{nextOf}
 use Rattle.records.specs.Replies.{replyBytes, faultBytes}
 use Rattle.records.specs.declared.Found.{Found}
 use Rattle.records.specs.declared.Found.the-variants.{Record, Nothing, Part, Malformed}
-use Rattle.recording.specs.declared.Stage.{Stage}
-use Rattle.recording.specs.declared.Stage.the-variants.{Replaying, Over}
+use Rattle.playback.specs.declared.Stage.{Stage}
+use Rattle.playback.specs.declared.Stage.the-variants.{Opening, Replaying, Over}
 
 -- "spaces for identity"
 unfoldable pub spaces : Identity
@@ -29,6 +29,12 @@ replayDevice = setupOf 4 2 8 spaces zeroPassword .device
 -- "zero sectors"
 unfoldable pub zeroSectors : List ℕ
 zeroSectors = replicate (512 * 64) 0
+
+-- the replay has ended
+abbrev pub isOver : Stage → Bool
+isOver Opening = false
+isOver Replaying = false
+isOver Over = true
 
 -- what a part of a recording gives: the device and the sectors after it, how many of its bytes are used up, its reply, and where the replay stands
 pub record Play : Type 0 where
@@ -64,15 +70,19 @@ unfoldable pub playOf : Bool → ℕ → Device → List ℕ → List ℕ → Pl
 playOf last zero d m l = rests d m [] Replaying
 playOf last (suc n) d m l = playAs last d m l (playOf last n) (nextOf l)
 
--- all records of a recording that ends with them
-abbrev pub recordsReply : Device → List ℕ → List ℕ → List ℕ
+-- all records of a recording that ends with them; there are fewer than bytes
+unfoldable pub recordsReply : Device → List ℕ → List ℕ → List ℕ
 recordsReply d m l = playOf true (suc (length l)) d m l .reply
 
 -- "empty input gives 01 00 01 05"; the same for another version
 abbrev pub versionFault : List ℕ
 versionFault = 1 ∷ faultBytes
 
--- the reply to a whole recording: "version byte 01h, then records", "Reply: 01h, then per record"
-unfoldable pub replyOf : List ℕ → List ℕ
-replyOf [] = versionFault
-replyOf (version ∷ l) = pick (eqb version 1) (1 ∷ recordsReply replayDevice zeroSectors l) versionFault
+-- a whole recording, from this device and these sectors on: "version byte 01h, then records", "Reply: 01h, then per record"
+unfoldable pub replyFrom : Device → List ℕ → List ℕ → List ℕ
+replyFrom d m [] = versionFault
+replyFrom d m (version ∷ l) = pick (eqb version 1) (1 ∷ recordsReply d m l) versionFault
+
+-- the reply to a recording
+abbrev pub replyOf : List ℕ → List ℕ
+replyOf l = replyFrom replayDevice zeroSectors l

@@ -1,7 +1,7 @@
 -- The answer's number and value.
 use borrow.Author.Needs.{needs}
-use Rattle.recording.proofs.answer.Statement.{statement}
-use Rattle.recording.proofs.answer.Tie as tie
+use Rattle.playback.proofs.answer.Statement.{statement}
+use Rattle.playback.proofs.answer.Tie as tie
 
 number-requires : tie.Need-number-requires
 number-requires c κs = search needs

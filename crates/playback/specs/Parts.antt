@@ -12,10 +12,10 @@ use Rattle.device.specs.Alone.{deviceOf}
 use Rattle.device.specs.Host.{Ready}
 use Rattle.device.specs.declared.Device.{Device}
 use Rattle.records.specs.Replies.{faultBytes}
-use Rattle.recording.specs.Replay.{Play, onto, playOf}
-use Rattle.recording.specs.declared.Came.{Came}
-use Rattle.recording.specs.declared.Stage.{Stage}
-use Rattle.recording.specs.declared.Stage.the-variants.{Replaying, Over}
+use Rattle.playback.specs.Replay.{Play, onto, playOf}
+use Rattle.playback.specs.declared.Came.{Came}
+use Rattle.playback.specs.declared.Stage.{Stage}
+use Rattle.playback.specs.declared.Stage.the-variants.{Replaying, Over}
 
 -- the device, of which the loop holds the hot part and the buffer apart
 abbrev pub wholeOf : Device → Hot → List ℕ → Device

@@ -1,0 +1,145 @@
+// The loop over a recording's records: each is one action of the device, which the loop holds in parts.
+ghost use mathlib.Core.Path.{_≡_};
+ghost use Prim.Native.Nat.{_+_, _≤_};
+ghost use lib.ListN.{length};
+ghost use lib.Seq.{sets};
+ghost use Rattle.face.specs.Reads.{numberOf};
+ghost use Rattle.device.specs.Alone.{valueOf};
+ghost use Rattle.device.specs.Host.{Ready};
+ghost use Rattle.records.specs.Replies.{replyBytes};
+ghost use Rattle.playback.specs.Replay.{isOver};
+ghost use Rattle.playback.specs.Parts.{wholeOf, partOf, came, Gives, cutStage, cutMade, cutReply};
+use device::Device;
+use face::Action;
+use face::Answer;
+use face::Face;
+use face::Hot;
+use face::Quick;
+use face::Seen;
+use records::Found;
+
+// Where a replay stands: before its version byte, among its records, or at its end.
+pub enum Stage {
+    Opening,
+    Replaying,
+    Over,
+}
+
+impl Stage {
+    pub fn over(self) -> bool
+        ensures { λ r. ⌜ r ≡ isOver self ⌝ }
+    {
+        match self {
+            Stage::Opening => false,
+            Stage::Replaying => false,
+            Stage::Over => true,
+        }
+    }
+}
+
+// How far a part of a recording came.
+pub struct Came {
+    pub device: Device,
+    pub stage: Stage,
+    pub taken: usize,
+    pub made: usize,
+}
+
+// The device, of which the loop holds the hot part and the buffer apart.
+fn whole(mut device: Device, hot: Hot, buffer: [u8; 512]) -> Device
+    ensures { λ r. ⌜ r ≡ wholeOf device hot buffer ⌝ }
+{
+    let face = device.face;
+    device.face = face.with_buffer(buffer).with_hot(hot);
+    device
+}
+
+// The reply to a record that the fast path settled.
+fn answer(out: &mut [u8], put: usize, seen: Seen)
+    requires { ⌜ put + 5 ≤ length (now out) ⌝ }
+    ensures { λ _. ⌜ now (out .exit) ≡ sets (now (out .entry)) put (replyBytes (numberOf (seen .answer)) (valueOf (seen .answer) (seen .value))) ⌝ }
+{
+    let answer = seen.answer;
+    let number = answer.number();
+    let value = device::value_of(answer, seen.value);
+    records::reply(out, put, number, value);
+}
+
+fn ended(last: bool) -> Stage
+    ensures { λ r. ⌜ r ≡ cutStage last ⌝ }
+{
+    if last {
+        return Stage::Over;
+    }
+    Stage::Replaying
+}
+
+pub fn halt(device: Device, stage: Stage, taken: usize, made: usize) -> Came
+    ensures { λ r. ⌜ r ≡ came device stage taken made ⌝ }
+{
+    Came {
+        device,
+        stage,
+        taken,
+        made,
+    }
+}
+
+// The bytes go on with no whole record: a fault, where no more of them come.
+fn cut(device: Device, last: bool, out: &mut [u8], at: usize, put: usize) -> Came
+    requires { ⌜ put + 3 ≤ length (now out) ⌝ }
+    ensures { λ r. ⌜ (r ≡ came device (cutStage last) at (cutMade last put)) × (now (out .exit) ≡ cutReply last (now (out .entry)) put) ⌝ }
+{
+    if last {
+        records::fault(out, put);
+        return halt(device, Stage::Over, at, put + 3);
+    }
+    halt(device, Stage::Replaying, at, put)
+}
+
+// Replays whole records from place `from` on, until the reply is full or the bytes are used up.
+pub fn play(
+    mut device: Device,
+    sectors: &mut [u8],
+    rec: &[u8],
+    from: usize,
+    last: bool,
+    out: &mut [u8],
+) -> Came
+    requires { ⌜ Ready device (now sectors) × ((from ≤ length (now rec)) × (from ≤ length (now out))) ⌝ }
+    ensures { λ r. ⌜ Gives (partOf last device (now (sectors .entry)) (now (rec .entry)) from (now (out .entry))) r (now (sectors .exit)) (now (out .entry)) (now (out .exit)) ⌝ }
+{
+    let face = device.face;
+    let mut hot = face.hot;
+    let mut buffer = face.buffer;
+    let mut at = from;
+    let mut put = from;
+    let mut left = (out.len() - from) / 5;
+    while 0 < left {
+        left -= 1;
+        match records::next(&rec[at..]) {
+            Found::Record(action, size) => match device::quick(hot, &mut buffer, action) {
+                Quick::Settles(seen) => {
+                    hot = seen.hot;
+                    answer(out, put, seen);
+                    put = put + 5;
+                    at = at + size;
+                }
+                Quick::Slow => {
+                    let outcome = whole(device, hot, buffer).act(action, sectors);
+                    device = outcome.device;
+                    let face = device.face;
+                    hot = face.hot;
+                    buffer = face.buffer;
+                    records::reply(out, put, outcome.number, outcome.value);
+                    put = put + 5;
+                    at = at + size;
+                }
+            },
+            Found::Nothing => return halt(whole(device, hot, buffer), ended(last), at, put),
+            Found::Part => return cut(whole(device, hot, buffer), last, out, at, put),
+            Found::Malformed => return cut(whole(device, hot, buffer), true, out, at, put),
+        }
+    }
+    halt(whole(device, hot, buffer), Stage::Replaying, at, put)
+}
