@@ -46,3 +46,55 @@ fn put(reply: &[u8]) -> bool {
     }
     written
 }
+
+// One turn over the bytes held, and its reply written.
+fn turn(stream: Stream, sectors: &mut [u8], window: &mut [u8], held: usize, last: bool, out: &mut [u8]) -> Round {
+    let t = stream.turn(sectors, window, held, last, out);
+    let made = t.made;
+    let next = t.stream;
+    let stage = next.stage;
+    let written = put(&out[..made]);
+    let over = stage.over();
+    let on = written && !over && t.number == 0;
+    Round {
+        stream: next,
+        held: t.held,
+        on,
+    }
+}
+
+// One read, and the turn over what it brought.
+fn round(stream: Stream, sectors: &mut [u8], window: &mut [u8], held: usize, out: &mut [u8]) -> Round {
+    match fill(window, held) {
+        Came::Bytes(more) => turn(stream, sectors, window, held + more, false, out),
+        Came::End => turn(stream, sectors, window, held, true, out),
+        Came::Failed => Round {
+            stream,
+            held,
+            on: false,
+        },
+    }
+}
+
+// Rounds until the replay is over; the count only bounds the loop, and no recording uses it up.
+fn run(sectors: &mut [u8], window: &mut [u8], out: &mut [u8]) {
+    let mut stream = Stream::start();
+    let mut held = 0;
+    let mut rounds = u64::MAX;
+    while 0 < rounds {
+        rounds -= 1;
+        let after = round(stream, sectors, window, held, out);
+        stream = after.stream;
+        held = after.held;
+        if !after.on {
+            return;
+        }
+    }
+}
+
+fn main() {
+    let mut sectors = [0u8; 32768];
+    let mut window = [0u8; 65536];
+    let mut out = [0u8; 131072];
+    run(&mut sectors, &mut window, &mut out);
+}
