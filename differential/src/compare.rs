@@ -15,7 +15,7 @@ use std::time::Instant;
 
 /// A run this long must have reached every class of the coverage table.
 const FULL_RUN: u64 = 2_000;
-const PROGRESS_EVERY: u64 = 100;
+const PROGRESS_LINES: u64 = 20;
 
 pub struct Plan {
     pub seed: u64,
@@ -98,7 +98,7 @@ fn run_sessions(plan: &Plan, next: &AtomicU64, stop: &AtomicBool, progress: &Mut
         if !(progress.errors.is_empty() && progress.different.is_empty()) {
             stop.store(true, Ordering::Relaxed);
         }
-        progress.print_sometimes();
+        progress.print_sometimes(plan.count);
     }
 }
 
@@ -113,8 +113,9 @@ fn piece_size(number: u64, length: usize) -> usize {
 }
 
 impl Progress {
-    fn print_sometimes(&self) {
-        if self.sessions.is_multiple_of(PROGRESS_EVERY) {
+    fn print_sometimes(&self, count: u64) {
+        let step = (count / PROGRESS_LINES).max(1);
+        if self.sessions.is_multiple_of(step) {
             println!(
                 "{} sessions, {} records, {} equal, {} s",
                 with_commas(self.sessions),
