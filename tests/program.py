@@ -16,6 +16,7 @@ import threading
 
 REPLAY, SECOND, DIFFERENTIAL = (os.path.abspath(path) for path in sys.argv[1:4])
 PATIENCE = 10  # seconds, far above what any step takes
+LIFETIME = 60  # seconds, after which a program that takes no input is ended, since a write to it would wait for ever
 MEMORY = 4096  # KiB
 LONG = 30_000_000  # bytes
 CHUNK = 1 << 16
@@ -43,8 +44,10 @@ class Replay:
         self.child = subprocess.Popen([REPLAY], stdin=subprocess.PIPE, stdout=subprocess.PIPE, bufsize=0)
         self.reply, self.digest, self.length, self.keep = bytearray(), hashlib.sha256(), 0, keep
         self.grown = threading.Condition()
-        self.reader = threading.Thread(target=self.gather)
+        self.reader = threading.Thread(target=self.gather, daemon=True)
         self.reader.start()
+        self.watch = threading.Timer(LIFETIME, self.child.kill)
+        self.watch.start()
 
     def gather(self):
         while data := self.child.stdout.read(CHUNK):
@@ -76,11 +79,9 @@ class Replay:
     def end(self):
         """Ends the input; whether the program ended by itself."""
         self.child.stdin.close()
-        return self.has_ended()
-
-    def has_ended(self):
         ended = ends(self.child)
-        self.reader.join()
+        self.watch.cancel()
+        self.reader.join(PATIENCE)
         return ended
 
 

@@ -387,6 +387,7 @@ def difference(entry, given):
 
 
 def program_differences(program, entries):
+    """Where a program's replies differ; one that can't be run or has no end isn't asked again."""
     found = []
     for entry in entries:
         ways = [("", run_whole)]
@@ -396,8 +397,7 @@ def program_differences(program, entries):
             try:
                 given, code = run(program, entry.recording)
             except (OSError, subprocess.TimeoutExpired) as reason:
-                found.append(f"{program}: {entry.name}: {reason}")
-                continue
+                return found + [f"{program}: {entry.name}: {reason}"]
             text = difference(entry, given)
             killed = f" (signal {-code})" if code < 0 else ""
             if text or killed:

@@ -2,15 +2,20 @@
 
 use crate::recording::{Record, Recording};
 use std::ops::Range;
+use std::time::{Duration, Instant};
 
 /// Enough for a session of tens of thousands of records, and an end to the search.
 const JUDGEMENTS: usize = 6_000;
+
+/// An end to the search where each judgement waits for a program that hangs.
+const TIME_LIMIT: Duration = Duration::from_secs(120);
 
 struct Shrinker<Judge> {
     /// Tells the record where the replies part, if they still do.
     judge: Judge,
     best: Recording,
     judgements_left: usize,
+    started: Instant,
 }
 
 /// The smallest recording found on which `judge` still sees the replies part.
@@ -22,6 +27,7 @@ where
         judge,
         best: recording.clone(),
         judgements_left: JUDGEMENTS,
+        started: Instant::now(),
     };
     shrinker.keep_if_different(recording);
     shrinker.drop_tail();
@@ -39,6 +45,9 @@ where
 
 impl<Judge: FnMut(&Recording) -> Option<usize>> Shrinker<Judge> {
     fn parts(&mut self, candidate: &Recording) -> Option<usize> {
+        if self.started.elapsed() > TIME_LIMIT {
+            self.judgements_left = 0;
+        }
         self.judgements_left = self.judgements_left.checked_sub(1)?;
         (self.judge)(candidate)
     }
@@ -104,7 +113,7 @@ impl<Judge: FnMut(&Recording) -> Option<usize>> Shrinker<Judge> {
 
     fn clear_bits(&mut self) {
         let mut index = 0;
-        while index < self.best.records.len() {
+        while index < self.best.records.len() && self.judgements_left > 0 {
             for bit in (0..16).rev() {
                 let mut candidate = self.best.clone();
                 let Some(record) = candidate.records.get_mut(index) else {
