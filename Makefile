@@ -1,11 +1,34 @@
+# make replay    proves and builds the replay program, then shows a recorded guest beside the replies (RECORDING=path)
 # make test      the gate: proves every crate from nothing, tries every must-fail edit, then the other tests
+# make soak      compares the proved and the second program over many sessions (SESSIONS=n, SEED=n)
+# make bench     times both programs, counts instructions and writes the table of docs/SPEED.md
 # make proofs    writes the proof files of CRATE anew from its recipes (CRATE=address)
 # make fmt       takes unused imports out and lays sources and proofs out as the gate wants them
 
-.PHONY: test proofs fmt
+.PHONY: replay test soak bench proofs fmt
+
+# Payment's sector, and what the next guest sees of it before and after the password.
+RECORDING := recordings/leak-read-buffer-while-locked.rec
+SESSIONS := 50000
+SEED := $(shell date +%s)
+PROGRAMS := . tools/programs.sh
+
+replay:
+	@tools/install.sh python3
+	@$(PROGRAMS) && build_replay
+	@sed -n '1s/^# */$(notdir $(RECORDING)): /p' $(basename $(RECORDING)).txt 2>/dev/null || true
+	@$(PROGRAMS) && tools/recordings.py show $(RECORDING) $$replay
 
 test:
 	@tests/gate.sh
+
+soak:
+	@$(PROGRAMS) && build_replay && build_others && echo '$(SESSIONS) sessions from seed $(SEED)' && \
+	$$differential compare --seed $(SEED) --count $(SESSIONS) --keep build/differences $$replay $$second
+
+bench:
+	@tools/install.sh python3 valgrind
+	@$(PROGRAMS) && build_replay && build_others && tools/bench.py $$replay $$second $$differential
 
 proofs:
 	@tools/prove.py $(CRATE)

@@ -6,6 +6,7 @@ cd "$(dirname "$0")/.." || exit 2
 log=$(mktemp) || exit 2
 trap 'rm -f "$log"' EXIT
 parts='' failed=0
+. tools/programs.sh
 
 # Runs one part, and keeps how long it took and whether it passed.
 part() { # NAME COMMAND..
@@ -26,11 +27,38 @@ prove() {
     return "${PIPESTATUS[0]}"
 }
 
-if ! command -v python3 >/dev/null; then
-    apt-get update -qq && apt-get install -y -qq python3 || exit 2
-fi
+# The Rust packages, built for the parts after this one, and their own tests, in the profile that builds quickest;
+# what cargo prints of these is shown where one fails.
+rust_tests() {
+    local package printed
+    build_others || return 1
+    for package in second differential; do
+        if ! printed=$(cargo test --offline --quiet --manifest-path "$package/Cargo.toml" 2>&1); then
+            echo "$printed"
+            return 1
+        fi
+        echo "$package: $(awk '/^test result: ok/ { n += $4 } END { print n + 0 }' <<<"$printed") tests passed"
+    done
+}
 
+recordings() {
+    python3 -m unittest --quiet tests/recordings_test.py && tools/recordings.py check "$replay" "$second"
+}
+
+# One seed, so that a gate that passed passes again; make soak takes others.
+compare() {
+    "$differential" compare --seed 1 --count 2000 --keep build/differences "$replay" "$second"
+}
+
+tools/install.sh python3 || exit 2
+
+# With a stand-in the parts can be tried, but the verdict is not the proved program's.
+[ -z "${REPLAY:-}" ] || part 'stand-in' false
 part 'proofs and edits' prove
+part 'second program' rust_tests
+part 'recordings' recordings
+part 'program' python3 tests/program.py "$replay" "$second" "$differential"
+part 'differential' compare
 part 'repository' python3 tests/repository.py "$log"
 
 verdict=$(tail -n 1 "$log")

@@ -5,6 +5,7 @@
 
 Each check gives a list of complaints; one complaint fails the run.
 """
+import ast
 import glob
 import os
 import re
@@ -18,6 +19,7 @@ from tree import read  # noqa: E402
 
 LONGEST_FUNCTION = 40  # lines
 LONGEST_CHECK = 60  # seconds for one crate
+MADE = ['./.git', './target', './build', './tools/__pycache__', './tests/__pycache__']  # folders that hold nothing written by hand
 
 
 def crates_are_listed(_):
@@ -38,7 +40,7 @@ def functions(path):
     for first, line in enumerate(lines):
         if re.match(r'impl (\w+)', line):
             owner = re.match(r'impl (\w+)', line).group(1) + '::'
-        m = re.match(r'( *)(pub )?(?:extern "C" )?fn (\w+)', line)
+        m = re.match(r'( *)(pub(?:\(\w+\))? )?(?:const )?(?:extern "C" )?fn (\w+)', line)
         if m:
             # its body ends at the first brace that closes at its own indent, or on its first line
             ends = (i for i in range(first, len(lines)) if lines[i] == m.group(1) + '}' or i == first and line.endswith('}'))
@@ -53,8 +55,32 @@ def all_functions():
             yield path.split('/')[1] + '::' + name, lines, public, required
 
 
+def lengths():
+    """(name, lines) of each function: the crates', the Rust packages' and the scripts'."""
+    for name, lines, _, _ in all_functions():
+        yield name, lines
+    for path in glob.glob('second/**/*.rs', recursive=True) + glob.glob('differential/**/*.rs', recursive=True):
+        for name, lines, _, _ in functions(path):
+            yield f'{path}: {name}', lines
+    for path in glob.glob('tools/*.py') + glob.glob('tests/*.py'):
+        for node in ast.walk(ast.parse(read(path))):
+            if isinstance(node, ast.FunctionDef):
+                yield f'{path}: {node.name}', node.end_lineno - node.lineno + 1
+
+
 def functions_are_short(_):
-    return [f'{name} has {lines} lines' for name, lines, _, _ in all_functions() if LONGEST_FUNCTION < lines]
+    return [f'{name} has {lines} lines' for name, lines in lengths() if LONGEST_FUNCTION < lines]
+
+
+def no_folder_of_one_machine_is_named(_):
+    """Files name places within the repository, or of every Linux."""
+    complaints = []
+    for folder, folders, files in os.walk('.'):
+        folders[:] = [name for name in folders if os.path.join(folder, name) not in MADE]
+        for path in (os.path.join(folder, name) for name in files):
+            with open(path, 'rb') as f:
+                complaints += [f'{path}: {name.decode()}' for name in re.findall(rb'/(?:work|root|home|opt)/\w*', f.read())]
+    return complaints
 
 
 def crates_check_quickly(log):
@@ -145,8 +171,9 @@ def laws_that_are_named_exist(_):
     return [f'{name} is no law' for name in re.findall(r'`([^`]+)`', table) if name not in there]
 
 
-CHECKS = [crates_are_listed, layout_is_kept, functions_are_short, crates_check_quickly, proofs_have_recipes,
-          imports_are_used, edits_reach_a_proof, promises_name_every_call, slips_have_edits, rules_name_every_definition, laws_that_are_named_exist]
+CHECKS = [crates_are_listed, layout_is_kept, functions_are_short, no_folder_of_one_machine_is_named, crates_check_quickly,
+          proofs_have_recipes, imports_are_used, edits_reach_a_proof, promises_name_every_call, slips_have_edits,
+          rules_name_every_definition, laws_that_are_named_exist]
 
 
 def main():
