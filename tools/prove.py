@@ -155,7 +155,7 @@ class Known:
 def conditions(crate, function):
     """What the tests of a function ask, in order."""
     owner, _, name = function.rpartition('/')
-    text = read(f'crates/{crate}/src/lib.rt')
+    text = read(glob.glob(f'crates/{crate}/src/*.rt')[0])
     start = 'impl ' + owner if owner else ''
     body = re.search(rf'{start}\b.*?\bfn {name}\(.*?\n(    )?\}}\n', text, re.S)
     body = body.group(0) if body else ''

@@ -5,13 +5,13 @@ use mathlib.Core.Path.{_≡_, refl, sym, ap, _∙_}
 use mathlib.Core.List.{List, [], _∷_, _++_}
 use native.Mathlib.Omega.{arith}
 use lib.Dec.{ltb, eqb}
-use lib.ListN.{length, getD, take, drop, length-drop}
+use lib.ListN.{length, getD, take, drop, length-drop, length-append}
 use lib.Seq.{sets, length-take-le, take-all}
 use borrow.Author.Tests.{ltb-true, ltb-false}
 use Rattle.base.specs.Choice.{pick}
 use Rattle.base.proofs.Tests.{pick-both, pick-each}
-use Rattle.device.specs.Alone.{Step}
-use Rattle.device.specs.Host.{stepOf}
+use Rattle.face.specs.declared.Answer.the-variants.{OutOfShape, WrongLength}
+use Rattle.device.specs.Host.{shapedOf, memoryLength, stepOf}
 use Rattle.device.specs.declared.Device.{Device}
 use Rattle.records.specs.Records.{nextOf}
 use Rattle.records.specs.declared.Found.{Found}
@@ -22,8 +22,9 @@ use Rattle.playback.specs.Parts.{cameOf, Gives}
 use Rattle.playback.specs.declared.Came.{Came}
 use Rattle.playback.specs.declared.Stage.{Stage}
 use Rattle.playback.specs.declared.Stage.the-variants.{Opening, Replaying, Over}
-use Rattle.recording.specs.Turns.{openOf, turnAs, leastOf, takenOf, Leaves}
+use Rattle.recording.specs.Turns.{openOf, turnAs, leastOf, Turned, takenOf, turnedAway, turnOf, Leaves}
 use Rattle.recording.specs.declared.Stream.{Stream}
+use Rattle.recording.specs.declared.Turn.{Turn}
 
 -- ---- bytes used up
 
@@ -102,3 +103,28 @@ leaves-taken s last m window held end out₀ out r m′ window′ i g h =
           window = h ∙ ap (λ (x : Came). sets window 0 (drop (x .taken) l)) (g .result);
           reply = g .reply;
         }
+
+-- ---- the reply lies within the room
+
+-- the turn counts the bytes that it wrote
+record Counted (t : Turned) : Type 0 where
+  is : t .turn .made ≡ length (t .reply)
+
+turn-counted : (s : Stream) (m window : List ℕ) (held : ℕ) (last : Bool) (room : ℕ) → Counted (turnOf s m window held last room)
+unfolding turnOf
+turn-counted s m window held last room = go (shapedOf (s .device)) (eqb (length m) (memoryLength (s .device)))
+  where
+    go : (a b : Bool)
+        → Counted (pick a (pick b (takenOf window (take held window) (turnAs (s .stage) last room (s .device) m (take held window))) (turnedAway s m window held WrongLength)) (turnedAway s m window held OutOfShape))
+    go true true = record { is = refl }
+    go true false = record { is = refl }
+    go false b = record { is = refl }
+
+pub made-within : (s : Stream) (m window : List ℕ) (held : ℕ) (last : Bool) (room : ℕ) (r : Turn) (m′ window′ out₀ out : List ℕ)
+    → Leaves (turnOf s m window held last room) r m′ window′ out₀ out → length out ≡ length out₀ → r .made ≤ length out
+made-within s m window held last room r m′ window′ out₀ out g e =
+    let t : Turned = turnOf s m window held last room in
+    let made : r .made ≡ length (t .reply) = ap (λ (x : Turn). x .made) (g .result) ∙ turn-counted s m window held last room .is in
+    let long : length out ≡ length (t .reply) + (length out₀ - length (t .reply)) =
+    ap length (g .reply) ∙ length-append (t .reply) (drop (length (t .reply)) out₀) ∙ ap (λ (n : ℕ). length (t .reply) + n) (length-drop (length (t .reply)) out₀) in
+    omega arith

@@ -4,38 +4,39 @@ use libc::STDIN_FILENO;
 use libc::STDOUT_FILENO;
 use recording::Stream;
 
-// What a read brought: some bytes, the recording's end, or an error.
-enum Came {
-    Bytes(usize),
+// After a read: how many bytes the window holds, or the recording's end, or an error.
+enum Input {
+    Held(usize),
     End,
     Failed,
 }
 
 // A replay between two reads, how many bytes the window holds, and whether to go on.
-struct Round {
+struct After {
     stream: Stream,
     held: usize,
     on: bool,
 }
 
 // Reads once, behind the bytes that the window holds.
-fn fill(window: &mut [u8], held: usize) -> Came {
+fn fill(window: &mut [u8], held: usize) -> Input {
     if window.len() <= held {
-        return Came::Bytes(0);
+        return Input::Held(held);
     }
     let behind = &mut window[held..];
     let got = libc::read(STDIN_FILENO, behind);
     if got == 0 {
-        return Came::End;
+        return Input::End;
     }
     if got < 0 {
         if os::errno() == EINTR {
-            return Came::Bytes(0);
+            return Input::Held(held);
         }
         os::fail(&[b'r', b'e', b'a', b'd']);
-        return Came::Failed;
+        return Input::Failed;
     }
-    Came::Bytes(io::count(got, behind))
+    let more = io::count(got, behind);
+    Input::Held(held + more)
 }
 
 // Whether all of the reply is written.
@@ -48,7 +49,14 @@ fn put(reply: &[u8]) -> bool {
 }
 
 // One turn over the bytes held, and its reply written.
-fn turn(stream: Stream, sectors: &mut [u8], window: &mut [u8], held: usize, last: bool, out: &mut [u8]) -> Round {
+fn turn(
+    stream: Stream,
+    sectors: &mut [u8],
+    window: &mut [u8],
+    held: usize,
+    last: bool,
+    out: &mut [u8],
+) -> After {
     let t = stream.turn(sectors, window, held, last, out);
     let made = t.made;
     let next = t.stream;
@@ -56,7 +64,7 @@ fn turn(stream: Stream, sectors: &mut [u8], window: &mut [u8], held: usize, last
     let written = put(&out[..made]);
     let over = stage.over();
     let on = written && !over && t.number == 0;
-    Round {
+    After {
         stream: next,
         held: t.held,
         on,
@@ -64,11 +72,17 @@ fn turn(stream: Stream, sectors: &mut [u8], window: &mut [u8], held: usize, last
 }
 
 // One read, and the turn over what it brought.
-fn round(stream: Stream, sectors: &mut [u8], window: &mut [u8], held: usize, out: &mut [u8]) -> Round {
+fn round(
+    stream: Stream,
+    sectors: &mut [u8],
+    window: &mut [u8],
+    held: usize,
+    out: &mut [u8],
+) -> After {
     match fill(window, held) {
-        Came::Bytes(more) => turn(stream, sectors, window, held + more, false, out),
-        Came::End => turn(stream, sectors, window, held, true, out),
-        Came::Failed => Round {
+        Input::Held(now) => turn(stream, sectors, window, now, false, out),
+        Input::End => turn(stream, sectors, window, held, true, out),
+        Input::Failed => After {
             stream,
             held,
             on: false,
