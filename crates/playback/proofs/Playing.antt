@@ -1,8 +1,8 @@
 -- The loop over the records: what it has replied so far, and what is still to come, is the whole part's replay; each record takes it one step on.
-use Prim.Native.Nat.{ℕ, zero, suc, _+_, _-_, _*_, _/_, _≤_, _<_}
+use Prim.Native.Nat.{ℕ, suc, _+_, _-_, _*_, _/_, _≤_, _<_}
 use mathlib.Core.Path.{_≡_, refl, sym, ap, _∙_}
 use mathlib.Core.Bool.{Bool, true, false}
-use mathlib.Core.List.{List, [], _∷_, _++_, append-assoc, append-nil}
+use mathlib.Core.List.{List, [], _++_, append-assoc, append-nil}
 use native.Mathlib.Nat.{add-zero, add-assoc}
 use native.Mathlib.Omega.{arith}
 use lib.ListN.{length, take, drop, length-drop, length-append, take-append-drop}
@@ -79,13 +79,13 @@ pub record Playing (whole : Play) (last : Bool) (l out₀ : List ℕ) (memory : 
   pub same : length m ≡ memory
   pub plays : whole ≡ onto at wrote (playOf last n d m (drop at l))
 
-pub playing-none : (last : Bool) (d : Device) (m l out : List ℕ) (from : ℕ) → Ready d m → from ≤ length l → from ≤ length out
-    → Playing (partOf last d m l from out) last l out (length m) ((length out - from) / 5) d m out from from
-playing-none last d m l out from r h g =
+pub playing-none : (last : Bool) (d : Device) (m l out : List ℕ) (at put : ℕ) → Ready d m → at ≤ length l → put ≤ length out
+    → Playing (partOf last d m l at out put) last l out (length m) ((length out - put) / 5) d m out at put
+playing-none last d m l out at put r h g =
     record {
-      wrote = take from out;
-      is = sym (take-append-drop from out);
-      long = length-take-le from out g;
+      wrote = take put out;
+      is = sym (take-append-drop put out);
+      long = length-take-le put out g;
       room = omega arith;
       all = refl;
       below = h;

@@ -1,6 +1,5 @@
 -- A device in shape over its memory stays so, and its host action is the action itself.
 use Prim.Native.Nat.{ℕ, _*_}
-use mathlib.Core.Bool.{true}
 use mathlib.Core.Path.{_≡_, sym, ap, _∙_}
 use mathlib.Core.List.{List}
 use lib.ListN.{length}

@@ -21,9 +21,9 @@ use Rattle.playback.specs.declared.Stage.the-variants.{Replaying, Over}
 abbrev pub wholeOf : Device → Hot → List ℕ → Device
 wholeOf d h b = deviceOf (withHot (withBuffer (d .face) b) h) (d .secrets)
 
--- the records from place `from` on, behind the reply's first `from` bytes
-abbrev pub partOf : Bool → Device → List ℕ → List ℕ → ℕ → List ℕ → Play
-partOf last d m l from out = onto from (take from out) (playOf last ((length out - from) / 5) d m (drop from l))
+-- the records from place `at` on, behind the reply's first `put` bytes
+abbrev pub partOf : Bool → Device → List ℕ → List ℕ → ℕ → List ℕ → ℕ → Play
+partOf last d m l at out put = onto at (take put out) (playOf last ((length out - put) / 5) d m (drop at l))
 
 -- a result of these parts
 abbrev pub came : Device → Stage → ℕ → ℕ → Came

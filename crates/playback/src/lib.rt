@@ -97,24 +97,18 @@ fn cut(device: Device, last: bool, out: &mut [u8], at: usize, put: usize) -> Cam
     halt(device, Stage::Replaying, at, put)
 }
 
-// Replays whole records from place `from` on, until the reply is full or the bytes are used up.
-pub fn play(
-    mut device: Device,
-    sectors: &mut [u8],
-    rec: &[u8],
-    from: usize,
-    last: bool,
-    out: &mut [u8],
-) -> Came
-    requires { ⌜ Ready device (now sectors) × ((from ≤ length (now rec)) × (from ≤ length (now out))) ⌝ }
-    ensures { λ r. ⌜ Gives (partOf last device (now (sectors .entry)) (now (rec .entry)) from (now (out .entry))) r (now (sectors .exit)) (now (out .entry)) (now (out .exit)) ⌝ }
+// Replays whole records from where it came on, until the reply is full or the bytes are used up.
+pub fn play(from: Came, sectors: &mut [u8], rec: &[u8], last: bool, out: &mut [u8]) -> Came
+    requires { ⌜ Ready (from .device) (now sectors) × ((from .taken ≤ length (now rec)) × (from .made ≤ length (now out))) ⌝ }
+    ensures { λ r. ⌜ Gives (partOf last (from .device) (now (sectors .entry)) (now (rec .entry)) (from .taken) (now (out .entry)) (from .made)) r (now (sectors .exit)) (now (out .entry)) (now (out .exit)) ⌝ }
 {
+    let mut device = from.device;
     let face = device.face;
     let mut hot = face.hot;
     let mut buffer = face.buffer;
-    let mut at = from;
-    let mut put = from;
-    let mut left = (out.len() - from) / 5;
+    let mut at = from.taken;
+    let mut put = from.made;
+    let mut left = (out.len() - put) / 5;
     while 0 < left {
         left -= 1;
         match records::next(&rec[at..]) {

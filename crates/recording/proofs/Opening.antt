@@ -1,8 +1,8 @@
 -- Where the version byte, or the end, leaves nothing to the loop; and where the loop stands for the whole part.
-use Prim.Native.Nat.{ℕ, _+_, _-_, _/_, _≤_}
+use Prim.Native.Nat.{ℕ, _-_, _/_, _≤_}
 use mathlib.Core.Bool.{Bool}
-use mathlib.Core.Path.{_≡_, refl, sym, ap, _∙_}
-use mathlib.Core.List.{List, [], _∷_, _++_}
+use mathlib.Core.Path.{_≡_, refl, ap, _∙_}
+use mathlib.Core.List.{List, [], _∷_}
 use native.Mathlib.Nat.{zero-add}
 use native.Mathlib.Omega.{arith}
 use lib.ListN.{length, drop, set}
@@ -23,7 +23,7 @@ gives-fault d m out r h = record { result = refl; sectors = refl; reply = sets-e
 
 -- the version byte is written, and the loop goes on behind it
 pub gives-open : (last : Bool) (d : Device) (m l out : List ℕ) (r : Came) (m′ out′ : List ℕ) → 1 ≤ length out
-    → Gives (partOf last d m l 1 (set out 0 1)) r m′ (set out 0 1) out′
+    → Gives (partOf last d m l 1 (set out 0 1) 1) r m′ (set out 0 1) out′
     → Gives (onto 1 (1 ∷ []) (playOf last ((length out - 1) / 5) d m (drop 1 l))) r m′ out out′
 gives-open last d m l [] r m′ out′ h g = absurd (none h)
   where
@@ -32,7 +32,7 @@ gives-open last d m l [] r m′ out′ h g = absurd (none h)
 gives-open last d m l (x ∷ xs) r m′ out′ h g = record { result = g .result; sectors = g .sectors; reply = g .reply; ready = g .ready }
 
 -- the loop from the first byte on
-part-whole : (last : Bool) (d : Device) (m l out : List ℕ) → partOf last d m l 0 out ≡ playOf last (length out / 5) d m l
+part-whole : (last : Bool) (d : Device) (m l out : List ℕ) → partOf last d m l 0 out 0 ≡ playOf last (length out / 5) d m l
 part-whole last d m l out =
     let p : Play = playOf last (length out / 5) d m l in
     let all : length out - 0 ≡ length out = omega arith in
@@ -40,5 +40,5 @@ part-whole last d m l out =
     ∙ ap (λ (n : ℕ). record { device = p .device; sectors = p .sectors; taken = n; reply = p .reply; stage = p .stage }) (zero-add (p .taken))
 
 pub gives-whole : (last : Bool) (d : Device) (m l out : List ℕ) (r : Came) (m′ out′ : List ℕ)
-    → Gives (partOf last d m l 0 out) r m′ out out′ → Gives (playOf last (length out / 5) d m l) r m′ out out′
+    → Gives (partOf last d m l 0 out 0) r m′ out out′ → Gives (playOf last (length out / 5) d m l) r m′ out out′
 gives-whole last d m l out r m′ out′ g = rw (part-whole last d m l out) at g

@@ -2,7 +2,7 @@
 use Prim.Native.Nat.{ℕ, zero, suc, _+_, _-_, _/_, _≤_, _<_}
 use mathlib.Core.Bool.{Bool, true, false}
 use mathlib.Core.Path.{_≡_, refl, sym, ap, _∙_}
-use mathlib.Core.List.{List, [], _∷_, _++_}
+use mathlib.Core.List.{List}
 use native.Mathlib.Omega.{arith}
 use lib.Dec.{ltb, eqb}
 use lib.ListN.{length, getD, take, drop, length-drop, length-append}
@@ -18,7 +18,7 @@ use Rattle.records.specs.declared.Found.{Found}
 use Rattle.records.specs.declared.Found.the-variants.{Record, Nothing, Part, Malformed}
 use Rattle.records.proofs.Sizes.{record-within}
 use Rattle.playback.specs.Replay.{Play, playAs, playOf}
-use Rattle.playback.specs.Parts.{cameOf, Gives}
+use Rattle.playback.specs.Parts.{Gives}
 use Rattle.playback.specs.declared.Came.{Came}
 use Rattle.playback.specs.declared.Stage.{Stage}
 use Rattle.playback.specs.declared.Stage.the-variants.{Opening, Replaying, Over}

@@ -16,7 +16,6 @@ use Rattle.lock.specs.Passwords.{zeroPassword}
 use Rattle.settled.specs.Identity.{printable, identityFits}
 use Rattle.device.specs.Setup.{freshOf}
 use Rattle.device.specs.Host.{Ready, shapedOf, memoryLength}
-use Rattle.device.specs.declared.Device.{Device}
 use Rattle.device.specs.declared.Outcome.{Outcome}
 use Rattle.laws.proofs.Refusals.{setup-within}
 use Rattle.laws.proofs.Reached.{fresh-shaped}

@@ -63,7 +63,8 @@ fn begin(device: Device, sectors: &mut [u8], rec: &[u8], last: bool, out: &mut [
     let version = rec[0];
     if version == 1 {
         out[0] = 1;
-        return playback::play(device, sectors, rec, 1, last, out);
+        let opened = playback::halt(device, Stage::Replaying, 1, 1);
+        return playback::play(opened, sectors, rec, last, out);
     }
     version_fault(out);
     playback::halt(device, Stage::Over, 0, 4)
@@ -83,7 +84,10 @@ fn part(
 {
     match stage {
         Stage::Opening => begin(device, sectors, rec, last, out),
-        Stage::Replaying => playback::play(device, sectors, rec, 0, last, out),
+        Stage::Replaying => {
+            let here = playback::halt(device, Stage::Replaying, 0, 0);
+            playback::play(here, sectors, rec, last, out)
+        }
         Stage::Over => playback::halt(device, Stage::Over, 0, 0),
     }
 }

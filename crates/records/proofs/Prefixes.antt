@@ -11,7 +11,7 @@ use Rattle.base.specs.Choice.{pick}
 use Rattle.base.proofs.Tests.{false≢true}
 use Rattle.records.specs.declared.Found.{Found}
 use Rattle.records.specs.declared.Found.the-variants.{Record, Nothing, Part, Malformed}
-use Rattle.records.specs.Records.{oneByte, twoBytes, threeBytes, payloadOf, nextOf}
+use Rattle.records.specs.Records.{payloadOf, nextOf}
 
 -- nothing that follows can change it
 abbrev pub decided : Found → Bool
