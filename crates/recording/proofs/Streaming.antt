@@ -9,6 +9,7 @@ use lib.ListN.{length, drop, length-drop}
 use lib.Seq.{drop-append-le, drop-drop}
 use borrow.Author.Tests.{le-ltb}
 use Rattle.base.specs.Choice.{pick}
+use Rattle.block.specs.Sectors.{zeroed}
 use Rattle.device.specs.Alone.{Step}
 use Rattle.device.specs.Host.{stepOf}
 use Rattle.device.specs.declared.Device.{Device}
@@ -21,7 +22,8 @@ use Rattle.records.proofs.Prefixes.{decided, next-stays}
 use Rattle.playback.specs.Replay.{Play, rests, onto, answered, playAs, playOf, recordsReply, replyFrom, versionFault, replayDevice, zeroSectors, replyOf}
 use Rattle.playback.specs.declared.Stage.{Stage}
 use Rattle.playback.specs.declared.Stage.the-variants.{Opening, Replaying, Over}
-use Rattle.recording.specs.Turns.{openOf, turnAs}
+use Rattle.recording.specs.Turns.{openOf, turnAs, wholePlay}
+use Rattle.recording.proofs.Whole.{right-length, zeroed-sectors}
 use Rattle.recording.specs.Streams.{toCome, Piece, joined, turnOn, streamedOf}
 
 -- ---- enough records
@@ -228,3 +230,23 @@ last-turn stage room d m l h k =
           ∙ ap (λ (i : List ℕ). p .reply ++ i) (over-nothing (p .stage) (p .device) (p .sectors) (drop (p .taken) l ++ []) over) ∙ append-nil (p .reply)),
       over,
     )
+
+-- ---- a whole recording at once
+
+-- over 64 sectors, and with room for it, its reply is the recording's
+pub whole-reply : (l m : List ℕ) (room : ℕ) → length m ≡ 32768 → 4 ≤ room → length l < 3 * ((room - 1) / 5)
+    → (wholePlay l m room .reply ≡ replyOf l) × (wholePlay l m room .stage ≡ Over)
+unfolding wholePlay toCome
+whole-reply l m room e h k =
+    let t = last-turn Opening room replayDevice (zeroed m) l h k in
+    simp (right-length m e) (t .0 ∙ ap (λ (z : List ℕ). replyFrom replayDevice z l) (zeroed-sectors m e), t .1)
+
+-- "empty input gives 01 00 01 05"
+pub empty-reply : replyOf [] ≡ 1 ∷ 0 ∷ 1 ∷ 5 ∷ []
+unfolding replyFrom
+empty-reply = refl
+
+-- "a lone version byte gives 01"
+pub lone-version-reply : replyOf (1 ∷ []) ≡ 1 ∷ []
+unfolding replyFrom recordsReply playOf playAs nextOf
+lone-version-reply = refl

@@ -67,7 +67,7 @@ pub zeroed-sectors : (m : List ℕ) → length m ≡ 32768 → zeroed m ≡ zero
 unfolding zeroed zeroSectors
 zeroed-sectors m e = ap (λ (n : ℕ). replicate n 0) e
 
-right-length : (m : List ℕ) → length m ≡ 32768 → eqb (length m) (length zeroSectors) ≡ true
+pub right-length : (m : List ℕ) → length m ≡ 32768 → eqb (length m) (length zeroSectors) ≡ true
 right-length m e = eq-eqb _ _ (e ∙ sym sectors-length)
 
 wrong-length : (m : List ℕ) → length m ≢ 32768 → eqb (length m) (length zeroSectors) ≡ false
