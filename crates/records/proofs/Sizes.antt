@@ -1,11 +1,13 @@
--- A record has at least three bytes, and they are all there.
-use Prim.Native.Nat.{ℕ, _≤_}
-use mathlib.Core.Path.{_≡_}
+-- A record has as many bytes as its length says and the two of the length, at least three, and they are all there.
+use Prim.Native.Nat.{ℕ, _+_, _*_, _≤_}
+use mathlib.Core.Bool.{true}
+use mathlib.Core.Path.{_≡_, refl}
 use mathlib.Core.List.{List}
+use native.Mathlib.Nat.{zero-add}
 use native.Mathlib.Omega.{arith}
 use lib.Dec.{ltb, eqb}
 use lib.ListN.{length, getD}
-use borrow.Author.Tests.{ltb-false}
+use borrow.Author.Tests.{ltb-false, eqb-true}
 use Rattle.base.specs.Choice.{pick}
 use Rattle.base.proofs.Tests.{pick-both, pick-each}
 use Rattle.face.specs.declared.Action.{Action}
@@ -56,3 +58,50 @@ next-within l =
 
 pub record-within : (l : List ℕ) (a : Action) (size : ℕ) → nextOf l ≡ Record a size → (3 ≤ size) × (size ≤ length l)
 record-within l a size e = rw e at (next-within l)
+
+-- ---- a record's size is that of its length and of its payload
+
+-- a record's size goes with this length
+abbrev Sized : ℕ → Found → Type 0
+Sized n (Record a size) = size ≡ 2 + n
+Sized n Nothing = Unit
+Sized n Part = Unit
+Sized n Malformed = Unit
+
+one-sized : (kind : ℕ) → Sized 1 (oneByte kind)
+unfolding oneByte
+one-sized kind =
+    pick-both (Sized 1) (eqb kind 3) _ _ refl
+    (pick-both (Sized 1) (eqb kind 5) _ _ refl (pick-both (Sized 1) (eqb kind 6) _ _ refl (pick-both (Sized 1) (eqb kind 7) _ _ refl tt)))
+
+two-sized : (kind x : ℕ) → Sized 2 (twoBytes kind x)
+unfolding twoBytes
+two-sized kind x = pick-both (Sized 2) (eqb kind 1) _ _ refl tt
+
+three-sized : (kind x y : ℕ) → Sized 3 (threeBytes kind x y)
+unfolding threeBytes
+three-sized kind x y = pick-both (Sized 3) (eqb kind 4) _ _ refl (pick-both (Sized 3) (eqb kind 2) _ _ refl tt)
+
+-- what is shown of a length is shown of the byte that has it
+of-length : (k n size : ℕ) (l : List ℕ) (x : Found) → eqb k n ≡ true → Sized n x → Sized k (pick (ltb (length l) size) Part x)
+of-length k n size l x h p = rw (eqb-true k n h) (pick-both (Sized n) (ltb (length l) size) Part x tt p)
+
+payload-sized : (k : ℕ) (l : List ℕ) → Sized k (payloadOf k l)
+unfolding payloadOf
+payload-sized k l =
+    pick-each (Sized k) (eqb k 1) _ _ (λ h. of-length k 1 3 l _ h (one-sized (getD l 2 0)))
+    (λ _. pick-each (Sized k) (eqb k 2) _ _ (λ h. of-length k 2 4 l _ h (two-sized (getD l 2 0) (getD l 3 0)))
+    (λ _. pick-each (Sized k) (eqb k 3) _ _ (λ h. of-length k 3 5 l _ h (three-sized (getD l 2 0) (getD l 3 0) (getD l 4 0))) (λ _. tt)))
+
+next-sized : (l : List ℕ) → Sized (256 * getD l 0 0 + getD l 1 0) (nextOf l)
+unfolding nextOf
+next-sized l =
+    pick-both P (ltb (length l) 1) _ _ tt
+    (pick-both P (ltb (length l) 2) _ _ tt (pick-each P (eqb (getD l 0 0) 0) _ _ (λ h. rw (eqb-true (getD l 0 0) 0 h, zero-add (getD l 1 0)) (payload-sized (getD l 1 0) l)) (λ _. tt)))
+  where
+    P : Found → Type 0
+    P = Sized (256 * getD l 0 0 + getD l 1 0)
+
+-- "a two-byte big-endian length and payload"
+pub record-size : (l : List ℕ) (a : Action) (size : ℕ) → nextOf l ≡ Record a size → size ≡ 2 + (256 * getD l 0 0 + getD l 1 0)
+record-size l a size e = rw e at (next-sized l)
