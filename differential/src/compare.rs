@@ -35,6 +35,21 @@ struct Progress {
     coverage: Coverage,
 }
 
+impl Progress {
+    /// A run before its first session.
+    fn new() -> Self {
+        Progress {
+            started: Instant::now(),
+            sessions: 0,
+            records: 0,
+            equal: 0,
+            different: Vec::new(),
+            errors: Vec::new(),
+            coverage: Coverage::new(),
+        }
+    }
+}
+
 pub enum Verdict {
     Equal,
     Different,
@@ -42,15 +57,7 @@ pub enum Verdict {
 }
 
 pub fn compare(plan: &Plan) -> Result<Verdict, String> {
-    let progress = Mutex::new(Progress {
-        started: Instant::now(),
-        sessions: 0,
-        records: 0,
-        equal: 0,
-        different: Vec::new(),
-        errors: Vec::new(),
-        coverage: Coverage::new(),
-    });
+    let progress = Mutex::new(Progress::new());
     let next = AtomicU64::new(0);
     let stop = AtomicBool::new(false);
     thread::scope(|scope| {
@@ -234,15 +241,9 @@ mod tests {
     fn a_full_run_that_reaches_nothing_fails() {
         let mut plan = planted("differential-unreached", "\\106", "\\106");
         plan.count = FULL_RUN;
-        let progress = Progress {
-            started: Instant::now(),
-            sessions: 0,
-            records: 0,
-            equal: 0,
-            different: Vec::new(),
-            errors: Vec::new(),
-            coverage: Coverage::new(),
-        };
-        assert!(matches!(verdict(&plan, &progress), Verdict::Unreached));
+        assert!(matches!(
+            verdict(&plan, &Progress::new()),
+            Verdict::Unreached
+        ));
     }
 }

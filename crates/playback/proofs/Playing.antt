@@ -7,7 +7,6 @@ use native.Mathlib.Nat.{add-zero, add-assoc}
 use native.Mathlib.Omega.{arith}
 use lib.ListN.{length, take, drop, length-drop, length-append, take-append-drop}
 use lib.Seq.{sets, take-all, drop-drop, length-take-le}
-use Rattle.base.specs.Choice.{pick}
 use Rattle.face.specs.declared.Action.{Action}
 use Rattle.device.specs.Alone.{Step, aloneOf}
 use Rattle.device.specs.Host.{Ready, stepOf}
@@ -19,7 +18,7 @@ use Rattle.records.specs.declared.Found.{Found}
 use Rattle.records.specs.declared.Found.the-variants.{Record, Nothing, Part, Malformed}
 use Rattle.records.proofs.Stores.{write-behind}
 use Rattle.records.proofs.Sizes.{record-within}
-use Rattle.playback.specs.Replay.{Play, rests, onto, answered, playAs, playOf}
+use Rattle.playback.specs.Replay.{Play, rests, onto, answered, cutShort, playAs, playOf}
 use Rattle.playback.specs.Parts.{partOf, came, cameOf, Gives, cutStage, cutMade, cutReply}
 use Rattle.playback.specs.declared.Stage.{Stage}
 use Rattle.playback.specs.declared.Stage.the-variants.{Replaying, Over}
@@ -53,17 +52,28 @@ pub play-nothing : (last : Bool) (n : ℕ) (d : Device) (m l : List ℕ) → 0 <
 unfolding playAs
 play-nothing last n d m l h e = play-next last n d m l Nothing h e
 
--- no whole record is there, and none can come
-fault-play : Bool → Device → List ℕ → Play
-fault-play last d m = pick last (rests d m faultBytes Over) (rests d m [] Replaying)
-
-play-part : (last : Bool) (n : ℕ) (d : Device) (m l : List ℕ) → 0 < n → nextOf l ≡ Part → playOf last n d m l ≡ fault-play last d m
-unfolding playAs fault-play
+play-part : (last : Bool) (n : ℕ) (d : Device) (m l : List ℕ) → 0 < n → nextOf l ≡ Part → playOf last n d m l ≡ cutShort last d m
+unfolding playAs
 play-part last n d m l h e = play-next last n d m l Part h e
 
-play-malformed : (last : Bool) (n : ℕ) (d : Device) (m l : List ℕ) → 0 < n → nextOf l ≡ Malformed → playOf last n d m l ≡ fault-play true d m
-unfolding playAs fault-play
+play-malformed : (last : Bool) (n : ℕ) (d : Device) (m l : List ℕ) → 0 < n → nextOf l ≡ Malformed → playOf last n d m l ≡ cutShort true d m
+unfolding playAs
 play-malformed last n d m l h e = play-next last n d m l Malformed h e
+
+-- ---- the rest of a recording
+
+-- what the rest of the recording, lent as a part of it, starts with
+pub rest-starts : (l : List ℕ) (at : ℕ) (r x : Found) → r ≡ nextOf (take (length l - at) (drop at l)) → r ≡ x → nextOf (drop at l) ≡ x
+rest-starts l at r x e g =
+    let h : take (length l - at) (drop at l) ≡ drop at l = take-all (length l - at) (drop at l) (rw length-drop (omega arith)) in
+    sym (ap nextOf h) ∙ sym e ∙ g
+
+-- a record lies within the rest
+pub rest-within : (l : List ℕ) (at : ℕ) (a : Action) (size : ℕ) → nextOf (drop at l) ≡ Record a size → size ≤ length l - at
+rest-within l at a size e = go (record-within (drop at l) a size e .1)
+  where
+    go : size ≤ length (drop at l) → size ≤ length l - at
+    go i = rw length-drop at i
 
 -- ---- the loop
 
@@ -103,7 +113,7 @@ playing-more {w} {last} {l} {out₀} {k} {n} {d} {m} {out} {at} {put} p h a size
     let y : out′ ≡ (p .wrote ++ answered e) ++ drop (put + 5) out₀ = o ∙ write-behind (p .wrote) out out₀ (answered e) put (p .is) (p .long) (omega arith) in
     let z : length (p .wrote ++ answered e) ≡ put + 5 = length-append (p .wrote) (answered e) ∙ ap (λ (i : ℕ). i + 5) (p .long) in
     let b : at ≤ length l = p .below in
-    let v : size ≤ length l - at = within (record-within (drop at l) a size x .1) in
+    let v : size ≤ length l - at = rest-within l at a size x in
     record {
       wrote = p .wrote ++ answered e;
       is = y;
@@ -119,9 +129,6 @@ playing-more {w} {last} {l} {out₀} {k} {n} {d} {m} {out} {at} {put} p h a size
           ∙ onto-onto at (p .wrote) size (answered e) _
           ∙ ap (λ (i : List ℕ). onto (at + size) (p .wrote ++ answered e) (playOf last (n - 1) (e .outcome .device) (e .sectors) i)) (drop-drop size at l);
     }
-  where
-    within : size ≤ length (drop at l) → size ≤ length l - at
-    within i = rw length-drop at i
 
 -- a record that went the long way
 pub playing-after : {w : Play} {last : Bool} {l out₀ : List ℕ} {k n : ℕ} {d : Device} {m out : List ℕ} {at put : ℕ}
@@ -138,19 +145,6 @@ playing-after {d = d} {m = m} p h a size x o m′ f g q out′ e =
 pub playing-as : {w : Play} {last : Bool} {l out₀ : List ℕ} {k n : ℕ} {d : Device} {m out : List ℕ} {at put : ℕ}
     → Playing w last l out₀ k n d m out at put → (d′ : Device) → d′ ≡ d → Playing w last l out₀ k n d′ m out at put
 playing-as p d′ e = rw e p
-
--- what the rest of the recording, lent as a part of it, starts with
-pub rest-starts : (l : List ℕ) (at : ℕ) (r x : Found) → r ≡ nextOf (take (length l - at) (drop at l)) → r ≡ x → nextOf (drop at l) ≡ x
-rest-starts l at r x e g =
-    let h : take (length l - at) (drop at l) ≡ drop at l = take-all (length l - at) (drop at l) (rw length-drop (omega arith)) in
-    sym (ap nextOf h) ∙ sym e ∙ g
-
--- a record lies within the rest
-pub rest-within : (l : List ℕ) (at : ℕ) (a : Action) (size : ℕ) → nextOf (drop at l) ≡ Record a size → size ≤ length l - at
-rest-within l at a size e = go (record-within (drop at l) a size e .1)
-  where
-    go : size ≤ length (drop at l) → size ≤ length l - at
-    go i = rw length-drop at i
 
 -- ---- its ends
 
@@ -192,9 +186,9 @@ playing-fault {w} {last} {l} {out₀} {k} {n} {d} {m} {out} {at} {put} p h e out
 
 -- no whole record is there: the loop stops, at a fault where none can come
 playing-cut : {w : Play} {last : Bool} {l out₀ : List ℕ} {k n : ℕ} {d : Device} {m out : List ℕ} {at put : ℕ}
-    → Playing w last l out₀ k n d m out at put → 0 < n → (b : Bool) → playOf last n d m (drop at l) ≡ fault-play b d m
+    → Playing w last l out₀ k n d m out at put → 0 < n → (b : Bool) → playOf last n d m (drop at l) ≡ cutShort b d m
     → (out′ : List ℕ) → out′ ≡ cutReply b out put → Gives w (came d (cutStage b) at (cutMade b put)) m out₀ out′
-unfolding cutReply cutMade fault-play
+unfolding cutReply cutMade
 playing-cut p h true e out′ o = playing-fault p h e out′ o
 playing-cut {out₀ = out₀} {m = m} p h false e out′ o = go (playing-rests p Replaying e) o
   where

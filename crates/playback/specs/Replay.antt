@@ -57,12 +57,16 @@ onto n w p =
 abbrev pub answered : Step → List ℕ
 answered s = replyBytes (s .outcome .number) (s .outcome .value)
 
--- by what the bytes start with; `last` says that none come behind them, so that a part of a record is "a record cut short"
+-- the bytes go on with no whole record: "a record cut short", where none come behind them
+abbrev pub cutShort : Bool → Device → List ℕ → Play
+cutShort last d m = pick last (rests d m faultBytes Over) (rests d m [] Replaying)
+
+-- by what the bytes start with; `last` says that none come behind them
 unfoldable pub playAs : Bool → Device → List ℕ → List ℕ → (Device → List ℕ → List ℕ → Play) → Found → Play
 playAs last d m l rest (Record a size) =
     onto size (answered (stepOf d m a)) (rest (stepOf d m a .outcome .device) (stepOf d m a .sectors) (drop size l))
 playAs last d m l rest Nothing = rests d m [] (pick last Over Replaying)
-playAs last d m l rest Part = pick last (rests d m faultBytes Over) (rests d m [] Replaying)
+playAs last d m l rest Part = cutShort last d m
 playAs last d m l rest Malformed = rests d m faultBytes Over
 
 -- n records at the most: "The first fault .. adds 00 01 05 (length 1, answer 5) and ends"

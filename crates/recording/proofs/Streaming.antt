@@ -9,6 +9,7 @@ use lib.ListN.{length, drop, length-drop}
 use lib.Seq.{drop-append-le, drop-drop}
 use borrow.Author.Tests.{le-ltb}
 use Rattle.base.specs.Choice.{pick}
+use Rattle.base.proofs.Tests.{false≢true}
 use Rattle.block.specs.Sectors.{zeroed}
 use Rattle.device.specs.Alone.{Step}
 use Rattle.device.specs.Host.{stepOf}
@@ -36,12 +37,12 @@ shorter l size n w h =
     let e : length (drop size l) ≡ length l - size = length-drop size l in
     omega arith
 
+none-below : (n : ℕ) → n < 3 * 0 → ⊥
+none-below n h = omega arith
+
 more-records : (last : Bool) (n k : ℕ) (d : Device) (m l : List ℕ) → length l < 3 * n → playOf last (n + k) d m l ≡ playOf last n d m l
 unfolding playOf playAs
-more-records last zero k d m l h = absurd (none h)
-  where
-    none : length l < 3 * 0 → ⊥
-    none i = omega arith
+more-records last zero k d m l h = absurd (none-below (length l) h)
 more-records last (suc n) k d m l h =
     let e : suc n + k ≡ suc (n + k) = omega arith in
     ap (λ (i : ℕ). playOf last i d m l) e ∙ go (nextOf l) refl (λ d′ m′ l′. more-records last n k d′ m′ l′)
@@ -64,10 +65,7 @@ enough-records n d m l h =
 -- and ends the replay
 pub enough-ends : (n : ℕ) (d : Device) (m l : List ℕ) → length l < 3 * n → playOf true n d m l .stage ≡ Over
 unfolding playOf playAs
-enough-ends zero d m l h = absurd (none h)
-  where
-    none : length l < 3 * 0 → ⊥
-    none i = omega arith
+enough-ends zero d m l h = absurd (none-below (length l) h)
 enough-ends (suc n) d m l h = go (nextOf l) refl (λ d′ m′ l′. enough-ends n d′ m′ l′)
   where
     go : (x : Found) → nextOf l ≡ x → ((d′ : Device) (m′ l′ : List ℕ) → length l′ < 3 * n → playOf true n d′ m′ l′ .stage ≡ Over)
@@ -185,11 +183,8 @@ streamed stage d m held [] = ap (toCome stage d m) (sym (append-nil held))
 streamed stage d m held (p ∷ ps) =
     let q : Play = turnOn stage d m held p in
     ap (λ (i : List ℕ). q .reply ++ i) (streamed (q .stage) (q .device) (q .sectors) (drop (q .taken) (held ++ p .bytes)) ps)
-    ∙ sym (turn-continues stage false (p .room) d m (held ++ p .bytes) (joined ps) (λ h. absurd (no h)))
+    ∙ sym (turn-continues stage false (p .room) d m (held ++ p .bytes) (joined ps) (λ h. absurd (false≢true h)))
     ∙ ap (toCome stage d m) (append-assoc held (p .bytes) (joined ps))
-  where
-    no : false ≡ true → ⊥
-    no h = let z : _≡_ {A = ℕ} 0 1 = cc in omega arith
 
 -- the turns over the pieces of a recording, from the start, give its reply
 pub streamed-reply : (ps : List Piece) → streamedOf Opening replayDevice zeroSectors [] ps ≡ replyOf (joined ps)
