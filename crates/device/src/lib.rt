@@ -159,7 +159,7 @@ fn fresh(geometry: Geometry, identity: Identity, master: [u8; 32]) -> Device
 }
 
 // DEV: Device/Head bit 4.
-fn dev_set(hot: Hot) -> bool
+pub fn dev_set(hot: Hot) -> bool
     ensures { λ r. ⌜ r ≡ devSet hot ⌝ }
 {
     hot.regs.at.head / 16 % 2 == 1

@@ -189,7 +189,7 @@ impl Hot {
     }
 
     // Status, but for DEV.
-    fn status(self) -> u8
+    pub fn status(self) -> u8
         ensures { λ r. ⌜ r ≡ statusOf self ⌝ }
     {
         if self.signals.held {

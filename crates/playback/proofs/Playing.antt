@@ -1,5 +1,5 @@
 -- The loop over the records: what it has replied so far, and what is still to come, is the whole part's replay; each record takes it one step on.
-use Prim.Native.Nat.{ℕ, suc, _+_, _-_, _*_, _/_, _≤_, _<_}
+use Prim.Native.Nat.{ℕ, suc, _+_, _-_, _*_, _/_, _≤_}
 use mathlib.Core.Path.{_≡_, refl, sym, ap, _∙_}
 use mathlib.Core.Bool.{Bool, true, false}
 use mathlib.Core.List.{List, [], _++_, append-assoc, append-nil}
@@ -20,6 +20,7 @@ use Rattle.records.proofs.Stores.{write-behind}
 use Rattle.records.proofs.Sizes.{record-within}
 use Rattle.playback.specs.Replay.{Play, rests, onto, answered, cutShort, playAs, playOf}
 use Rattle.playback.specs.Parts.{partOf, came, cameOf, Gives, cutStage, cutMade, cutReply}
+use Rattle.playback.specs.Loops.{Playing}
 use Rattle.playback.specs.declared.Stage.{Stage}
 use Rattle.playback.specs.declared.Stage.the-variants.{Replaying, Over}
 use Rattle.playback.proofs.Steps.{ready-step, ready-after}
@@ -31,34 +32,34 @@ onto-onto k w j v p =
     ap (λ (n : ℕ). record { device = p .device; sectors = p .sectors; taken = n; reply = w ++ (v ++ p .reply); stage = p .stage }) (sym (add-assoc k j (p .taken)))
     ∙ ap (λ (l : List ℕ). record { device = p .device; sectors = p .sectors; taken = (k + j) + p .taken; reply = l; stage = p .stage }) (sym (append-assoc w v (p .reply)))
 
-play-next : (last : Bool) (n : ℕ) (d : Device) (m l : List ℕ) (x : Found) → 0 < n → nextOf l ≡ x → playOf last n d m l ≡ playAs last d m l (playOf last (n - 1)) x
+play-next : (last : Bool) (n : ℕ) (d : Device) (m l : List ℕ) (x : Found) → nextOf l ≡ x → playOf last (n + 1) d m l ≡ playAs last d m l (playOf last n) x
 unfolding playOf
-play-next last n d m l x h e =
-    let g : n ≡ suc (n - 1) = omega arith in
-    ap (λ (k : ℕ). playOf last k d m l) g ∙ ap (playAs last d m l (playOf last (n - 1))) e
+play-next last n d m l x e =
+    let g : n + 1 ≡ suc n = omega arith in
+    ap (λ (k : ℕ). playOf last k d m l) g ∙ ap (playAs last d m l (playOf last n)) e
 
 pub play-full : (last : Bool) (n : ℕ) (d : Device) (m l : List ℕ) → n ≤ 0 → playOf last n d m l ≡ rests d m [] Replaying
 unfolding playOf
 play-full last n d m l h = let g : n ≡ 0 = omega arith in ap (λ (k : ℕ). playOf last k d m l) g
 
-pub play-record : (last : Bool) (n : ℕ) (d : Device) (m l : List ℕ) (a : Action) (size : ℕ) (e : Step) → 0 < n → nextOf l ≡ Record a size → stepOf d m a ≡ e
-    → playOf last n d m l ≡ onto size (answered e) (playOf last (n - 1) (e .outcome .device) (e .sectors) (drop size l))
+play-record : (last : Bool) (n : ℕ) (d : Device) (m l : List ℕ) (a : Action) (size : ℕ) (e : Step) → nextOf l ≡ Record a size → stepOf d m a ≡ e
+    → playOf last (n + 1) d m l ≡ onto size (answered e) (playOf last n (e .outcome .device) (e .sectors) (drop size l))
 unfolding playAs
-play-record last n d m l a size e h x g =
-    play-next last n d m l (Record a size) h x
-    ∙ ap (λ (s : Step). onto size (answered s) (playOf last (n - 1) (s .outcome .device) (s .sectors) (drop size l))) g
+play-record last n d m l a size e x g =
+    play-next last n d m l (Record a size) x
+    ∙ ap (λ (s : Step). onto size (answered s) (playOf last n (s .outcome .device) (s .sectors) (drop size l))) g
 
-pub play-nothing : (last : Bool) (n : ℕ) (d : Device) (m l : List ℕ) → 0 < n → nextOf l ≡ Nothing → playOf last n d m l ≡ rests d m [] (cutStage last)
+pub play-nothing : (last : Bool) (n : ℕ) (d : Device) (m l : List ℕ) → nextOf l ≡ Nothing → playOf last (n + 1) d m l ≡ rests d m [] (cutStage last)
 unfolding playAs
-play-nothing last n d m l h e = play-next last n d m l Nothing h e
+play-nothing last n d m l e = play-next last n d m l Nothing e
 
-play-part : (last : Bool) (n : ℕ) (d : Device) (m l : List ℕ) → 0 < n → nextOf l ≡ Part → playOf last n d m l ≡ cutShort last d m
+play-part : (last : Bool) (n : ℕ) (d : Device) (m l : List ℕ) → nextOf l ≡ Part → playOf last (n + 1) d m l ≡ cutShort last d m
 unfolding playAs
-play-part last n d m l h e = play-next last n d m l Part h e
+play-part last n d m l e = play-next last n d m l Part e
 
-play-malformed : (last : Bool) (n : ℕ) (d : Device) (m l : List ℕ) → 0 < n → nextOf l ≡ Malformed → playOf last n d m l ≡ cutShort true d m
+play-malformed : (last : Bool) (n : ℕ) (d : Device) (m l : List ℕ) → nextOf l ≡ Malformed → playOf last (n + 1) d m l ≡ cutShort true d m
 unfolding playAs
-play-malformed last n d m l h e = play-next last n d m l Malformed h e
+play-malformed last n d m l e = play-next last n d m l Malformed e
 
 -- ---- the rest of a recording
 
@@ -77,18 +78,6 @@ rest-within l at a size e = go (record-within (drop at l) a size e .1)
 
 -- ---- the loop
 
--- of `whole`, the records before place `at` are replayed into out₀ up to `put`; n more fit
-pub record Playing (whole : Play) (last : Bool) (l out₀ : List ℕ) (memory : ℕ) (n : ℕ) (d : Device) (m out : List ℕ) (at put : ℕ) : Type 0 where
-  pub wrote : List ℕ
-  pub is : out ≡ wrote ++ drop put out₀
-  pub long : length wrote ≡ put
-  pub room : put + 5 * n ≤ length out₀
-  pub all : length out ≡ length out₀
-  pub below : at ≤ length l
-  pub ready : Ready d m
-  pub same : length m ≡ memory
-  pub plays : whole ≡ onto at wrote (playOf last n d m (drop at l))
-
 pub playing-none : (last : Bool) (d : Device) (m l out : List ℕ) (at put : ℕ) → Ready d m → at ≤ length l → put ≤ length out
     → Playing (partOf last d m l at out put) last l out (length m) ((length out - put) / 5) d m out at put
 playing-none last d m l out at put r h g =
@@ -105,11 +94,11 @@ playing-none last d m l out at put r h g =
     }
 
 pub playing-more : {w : Play} {last : Bool} {l out₀ : List ℕ} {k n : ℕ} {d : Device} {m out : List ℕ} {at put : ℕ}
-    → Playing w last l out₀ k n d m out at put → 0 < n → (a : Action) (size : ℕ) → nextOf (drop at l) ≡ Record a size
+    → Playing w last l out₀ k (n + 1) d m out at put → (a : Action) (size : ℕ) → nextOf (drop at l) ≡ Record a size
     → (e : Step) → aloneOf d m a ≡ e → length (e .sectors) ≡ length m → (out′ : List ℕ) → out′ ≡ sets out put (answered e)
-    → Playing w last l out₀ k (n - 1) (e .outcome .device) (e .sectors) out′ (at + size) (put + 5)
-playing-more {w} {last} {l} {out₀} {k} {n} {d} {m} {out} {at} {put} p h a size x e g q out′ o =
-    let r : put + 5 * n ≤ length out₀ = p .room in
+    → Playing w last l out₀ k n (e .outcome .device) (e .sectors) out′ (at + size) (put + 5)
+playing-more {w} {last} {l} {out₀} {k} {n} {d} {m} {out} {at} {put} p a size x e g q out′ o =
+    let r : put + 5 * (n + 1) ≤ length out₀ = p .room in
     let y : out′ ≡ (p .wrote ++ answered e) ++ drop (put + 5) out₀ = o ∙ write-behind (p .wrote) out out₀ (answered e) put (p .is) (p .long) (omega arith) in
     let z : length (p .wrote ++ answered e) ≡ put + 5 = length-append (p .wrote) (answered e) ∙ ap (λ (i : ℕ). i + 5) (p .long) in
     let b : at ≤ length l = p .below in
@@ -125,19 +114,19 @@ playing-more {w} {last} {l} {out₀} {k} {n} {d} {m} {out} {at} {put} p h a size
       same = q ∙ p .same;
       plays =
           p .plays
-          ∙ ap (onto at (p .wrote)) (play-record last n d m (drop at l) a size e h x (ready-step d m a (p .ready) ∙ g))
+          ∙ ap (onto at (p .wrote)) (play-record last n d m (drop at l) a size e x (ready-step d m a (p .ready) ∙ g))
           ∙ onto-onto at (p .wrote) size (answered e) _
-          ∙ ap (λ (i : List ℕ). onto (at + size) (p .wrote ++ answered e) (playOf last (n - 1) (e .outcome .device) (e .sectors) i)) (drop-drop size at l);
+          ∙ ap (λ (i : List ℕ). onto (at + size) (p .wrote ++ answered e) (playOf last n (e .outcome .device) (e .sectors) i)) (drop-drop size at l);
     }
 
 -- a record that went the long way
 pub playing-after : {w : Play} {last : Bool} {l out₀ : List ℕ} {k n : ℕ} {d : Device} {m out : List ℕ} {at put : ℕ}
-    → Playing w last l out₀ k n d m out at put → 0 < n → (a : Action) (size : ℕ) → nextOf (drop at l) ≡ Record a size
+    → Playing w last l out₀ k (n + 1) d m out at put → (a : Action) (size : ℕ) → nextOf (drop at l) ≡ Record a size
     → (o : Outcome) (m′ : List ℕ) → o ≡ aloneOf d m a .outcome → m′ ≡ aloneOf d m a .sectors → length m′ ≡ length m
     → (out′ : List ℕ) → out′ ≡ sets out put (replyBytes (o .number) (o .value))
-    → Playing w last l out₀ k (n - 1) (o .device) m′ out′ (at + size) (put + 5)
-playing-after {d = d} {m = m} p h a size x o m′ f g q out′ e =
-    playing-more p h a size x (record { outcome = o; sectors = m′ })
+    → Playing w last l out₀ k n (o .device) m′ out′ (at + size) (put + 5)
+playing-after {d = d} {m = m} p a size x o m′ f g q out′ e =
+    playing-more p a size x (record { outcome = o; sectors = m′ })
     (ap (λ (i : Outcome). record { outcome = i; sectors = aloneOf d m a .sectors }) (sym f) ∙ ap (λ (i : List ℕ). record { outcome = o; sectors = i }) (sym g))
     q out′ e
 
@@ -145,6 +134,11 @@ playing-after {d = d} {m = m} p h a size x o m′ f g q out′ e =
 pub playing-as : {w : Play} {last : Bool} {l out₀ : List ℕ} {k n : ℕ} {d : Device} {m out : List ℕ} {at put : ℕ}
     → Playing w last l out₀ k n d m out at put → (d′ : Device) → d′ ≡ d → Playing w last l out₀ k n d′ m out at put
 playing-as p d′ e = rw e p
+
+-- the same number, said otherwise
+pub playing-left : {w : Play} {last : Bool} {l out₀ : List ℕ} {k n : ℕ} {d : Device} {m out : List ℕ} {at put : ℕ}
+    → Playing w last l out₀ k n d m out at put → (n′ : ℕ) → n′ ≡ n → Playing w last l out₀ k n′ d m out at put
+playing-left p n′ e = rw e p
 
 -- ---- its ends
 
@@ -166,10 +160,10 @@ playing-rests {w} {last} {l} {out₀} {k} {n} {d} {m} {out} {at} {put} p stage e
 
 -- the loop stops at a fault
 playing-fault : {w : Play} {last : Bool} {l out₀ : List ℕ} {k n : ℕ} {d : Device} {m out : List ℕ} {at put : ℕ}
-    → Playing w last l out₀ k n d m out at put → 0 < n → playOf last n d m (drop at l) ≡ rests d m faultBytes Over
+    → Playing w last l out₀ k (n + 1) d m out at put → playOf last (n + 1) d m (drop at l) ≡ rests d m faultBytes Over
     → (out′ : List ℕ) → out′ ≡ sets out put faultBytes → Gives w (came d Over at (put + 3)) m out₀ out′
-playing-fault {w} {last} {l} {out₀} {k} {n} {d} {m} {out} {at} {put} p h e out′ o =
-    let x : put + 5 * n ≤ length out₀ = p .room in
+playing-fault {w} {last} {l} {out₀} {k} {n} {d} {m} {out} {at} {put} p e out′ o =
+    let x : put + 5 * (n + 1) ≤ length out₀ = p .room in
     let z : length (p .wrote ++ faultBytes) ≡ put + 3 = length-append (p .wrote) faultBytes ∙ ap (λ (i : ℕ). i + 3) (p .long) in
     let q : w ≡ record { device = d; sectors = m; taken = at; reply = p .wrote ++ faultBytes; stage = Over } =
     p .plays ∙ ap (onto at (p .wrote)) e
@@ -186,21 +180,21 @@ playing-fault {w} {last} {l} {out₀} {k} {n} {d} {m} {out} {at} {put} p h e out
 
 -- no whole record is there: the loop stops, at a fault where none can come
 playing-cut : {w : Play} {last : Bool} {l out₀ : List ℕ} {k n : ℕ} {d : Device} {m out : List ℕ} {at put : ℕ}
-    → Playing w last l out₀ k n d m out at put → 0 < n → (b : Bool) → playOf last n d m (drop at l) ≡ cutShort b d m
+    → Playing w last l out₀ k (n + 1) d m out at put → (b : Bool) → playOf last (n + 1) d m (drop at l) ≡ cutShort b d m
     → (out′ : List ℕ) → out′ ≡ cutReply b out put → Gives w (came d (cutStage b) at (cutMade b put)) m out₀ out′
 unfolding cutReply cutMade
-playing-cut p h true e out′ o = playing-fault p h e out′ o
-playing-cut {out₀ = out₀} {m = m} p h false e out′ o = go (playing-rests p Replaying e) o
+playing-cut p true e out′ o = playing-fault p e out′ o
+playing-cut {out₀ = out₀} {m = m} p false e out′ o = go (playing-rests p Replaying e) o
   where
     go : {w : Play} {r : _} {out : List ℕ} → Gives w r m out₀ out → out′ ≡ out → Gives w r m out₀ out′
     go g i = rw i g
 
 pub playing-part : {w : Play} {last : Bool} {l out₀ : List ℕ} {k n : ℕ} {d : Device} {m out : List ℕ} {at put : ℕ}
-    → Playing w last l out₀ k n d m out at put → 0 < n → nextOf (drop at l) ≡ Part
+    → Playing w last l out₀ k (n + 1) d m out at put → nextOf (drop at l) ≡ Part
     → (out′ : List ℕ) → out′ ≡ cutReply last out put → Gives w (came d (cutStage last) at (cutMade last put)) m out₀ out′
-playing-part {last = last} p h e out′ o = playing-cut p h last (play-part _ _ _ _ _ h e) out′ o
+playing-part {last = last} p e out′ o = playing-cut p last (play-part _ _ _ _ _ e) out′ o
 
 pub playing-malformed : {w : Play} {last : Bool} {l out₀ : List ℕ} {k n : ℕ} {d : Device} {m out : List ℕ} {at put : ℕ}
-    → Playing w last l out₀ k n d m out at put → 0 < n → nextOf (drop at l) ≡ Malformed
+    → Playing w last l out₀ k (n + 1) d m out at put → nextOf (drop at l) ≡ Malformed
     → (out′ : List ℕ) → out′ ≡ cutReply true out put → Gives w (came d (cutStage true) at (cutMade true put)) m out₀ out′
-playing-malformed p h e out′ o = playing-cut p h true (play-malformed _ _ _ _ _ h e) out′ o
+playing-malformed p e out′ o = playing-cut p true (play-malformed _ _ _ _ _ e) out′ o

@@ -9,6 +9,7 @@ ghost use Rattle.device.specs.Host.{Ready};
 ghost use Rattle.records.specs.Replies.{replyBytes};
 ghost use Rattle.playback.specs.Replay.{isOver};
 ghost use Rattle.playback.specs.Parts.{wholeOf, partOf, came, Gives, cutStage, cutMade, cutReply};
+ghost use Rattle.playback.specs.Loops.{standAt, Stands, Carries};
 use device::Device;
 use face::Action;
 use face::Answer;
@@ -16,6 +17,7 @@ use face::Face;
 use face::Hot;
 use face::Quick;
 use face::Seen;
+use glance::Glance;
 use records::Found;
 
 // Where a replay stands: before its version byte, among its records, or at its end.
@@ -97,6 +99,76 @@ fn cut(device: Device, last: bool, out: &mut [u8], at: usize, put: usize) -> Cam
     halt(device, Stage::Replaying, at, put)
 }
 
+// Where a loop over the hot part stands: the next record's place, its reply's, and how many replies fit behind that one.
+pub struct Stand {
+    pub hot: Hot,
+    pub at: usize,
+    pub put: usize,
+    pub left: usize,
+}
+
+fn stand(hot: Hot, at: usize, put: usize, left: usize) -> Stand
+    ensures { λ r. ⌜ r ≡ standAt hot at put left ⌝ }
+{
+    Stand { hot, at, put, left }
+}
+
+// Replays the records that need a glance only, of which the loop holds the next word's place and the interrupt apart.
+fn glide(from: Stand, buffer: &mut [u8; 512], rec: &[u8], out: &mut [u8]) -> Stand
+    requires { ⌜ Stands (now rec) (now out) from ⌝ }
+    ensures { λ r. ⌜ Carries (now (rec .entry)) from (now (buffer .entry)) (now (out .entry)) r (now (buffer .exit)) (now (out .exit)) ⌝ }
+{
+    let hot = from.hot;
+    let mut word = glance::place_of(hot.transfer);
+    let mut raised = hot.signals.raised;
+    let mut at = from.at;
+    let mut put = from.put;
+    let mut left = from.left;
+    while 0 < left {
+        match records::next(&rec[at..]) {
+            Found::Record(action, size) => match glance::look(hot, word, raised, buffer, action) {
+                Glance::Shows(place, after, value) => {
+                    word = place;
+                    raised = after;
+                    records::reply(out, put, 0, value);
+                    put = put + 5;
+                    at = at + size;
+                    left = left - 1;
+                }
+                Glance::Beyond => return stand(glance::hot_at(hot, word, raised), at, put, left),
+            },
+            Found::Nothing => return stand(glance::hot_at(hot, word, raised), at, put, left),
+            Found::Part => return stand(glance::hot_at(hot, word, raised), at, put, left),
+            Found::Malformed => return stand(glance::hot_at(hot, word, raised), at, put, left),
+        }
+    }
+    stand(glance::hot_at(hot, word, raised), at, put, left)
+}
+
+// Replays the records that the hot part and the buffer settle.
+fn swift(from: Stand, buffer: &mut [u8; 512], rec: &[u8], out: &mut [u8]) -> Stand
+    requires { ⌜ Stands (now rec) (now out) from ⌝ }
+    ensures { λ r. ⌜ Carries (now (rec .entry)) from (now (buffer .entry)) (now (out .entry)) r (now (buffer .exit)) (now (out .exit)) ⌝ }
+{
+    let mut far = glide(from, buffer, rec, out);
+    while 0 < far.left {
+        match records::next(&rec[far.at..]) {
+            Found::Record(action, size) => match device::quick(far.hot, buffer, action) {
+                Quick::Settles(seen) => {
+                    answer(out, far.put, seen);
+                    let onward = stand(seen.hot, far.at + size, far.put + 5, far.left - 1);
+                    far = glide(onward, buffer, rec, out);
+                }
+                Quick::Slow => return far,
+            },
+            Found::Nothing => return far,
+            Found::Part => return far,
+            Found::Malformed => return far,
+        }
+    }
+    far
+}
+
 // Replays whole records from where it came on, until the reply is full or the bytes are used up.
 pub fn play(from: Came, sectors: &mut [u8], rec: &[u8], last: bool, out: &mut [u8]) -> Came
     requires { ⌜ Ready (from .device) (now sectors) × ((from .taken ≤ length (now rec)) × (from .made ≤ length (now out))) ⌝ }
@@ -110,26 +182,22 @@ pub fn play(from: Came, sectors: &mut [u8], rec: &[u8], last: bool, out: &mut [u
     let mut put = from.made;
     let mut left = (out.len() - put) / 5;
     while 0 < left {
-        left -= 1;
+        let far = swift(stand(hot, at, put, left - 1), &mut buffer, rec, out);
+        hot = far.hot;
+        at = far.at;
+        put = far.put;
+        left = far.left;
         match records::next(&rec[at..]) {
-            Found::Record(action, size) => match device::quick(hot, &mut buffer, action) {
-                Quick::Settles(seen) => {
-                    hot = seen.hot;
-                    answer(out, put, seen);
-                    put = put + 5;
-                    at = at + size;
-                }
-                Quick::Slow => {
-                    let outcome = whole(device, hot, buffer).act(action, sectors);
-                    device = outcome.device;
-                    let face = device.face;
-                    hot = face.hot;
-                    buffer = face.buffer;
-                    records::reply(out, put, outcome.number, outcome.value);
-                    put = put + 5;
-                    at = at + size;
-                }
-            },
+            Found::Record(action, size) => {
+                let outcome = whole(device, hot, buffer).act(action, sectors);
+                device = outcome.device;
+                let face = device.face;
+                hot = face.hot;
+                buffer = face.buffer;
+                records::reply(out, put, outcome.number, outcome.value);
+                put = put + 5;
+                at = at + size;
+            }
             Found::Nothing => return halt(whole(device, hot, buffer), ended(last), at, put),
             Found::Part => return cut(whole(device, hot, buffer), last, out, at, put),
             Found::Malformed => return cut(whole(device, hot, buffer), true, out, at, put),

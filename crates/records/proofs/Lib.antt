@@ -1,3 +1,4 @@
 pub mod Stores
 pub mod Sizes
+pub mod Lengths
 pub mod Prefixes

@@ -1,5 +1,5 @@
 -- No byte behind a record, or behind a malformed one, changes what the bytes start with.
-use Prim.Native.Nat.{ℕ, _≤_}
+use Prim.Native.Nat.{ℕ, _+_, _*_, _≤_}
 use mathlib.Core.Bool.{Bool, true, false}
 use mathlib.Core.Path.{_≡_, refl, sym, ap, _∙_}
 use mathlib.Core.List.{List, _++_}
@@ -11,7 +11,7 @@ use Rattle.base.specs.Choice.{pick}
 use Rattle.base.proofs.Tests.{false≢true}
 use Rattle.records.specs.declared.Found.{Found}
 use Rattle.records.specs.declared.Found.the-variants.{Record, Nothing, Part, Malformed}
-use Rattle.records.specs.Records.{payloadOf, nextOf}
+use Rattle.records.specs.Records.{lengthOf, payloadOf, nextOf}
 
 -- nothing that follows can change it
 abbrev pub decided : Found → Bool
@@ -55,10 +55,10 @@ payload-stays k a b =
     (λ h. refl)))
 
 pub next-stays : (a b : List ℕ) → decided (nextOf a) ≡ true → nextOf (a ++ b) ≡ nextOf a
-unfolding nextOf
+unfolding nextOf lengthOf
 next-stays a b h =
     sized-stays a b 1 Nothing _ _ refl
     (λ l g. sized-stays a b 2 Part _ _ refl
     (λ m i. let x : getD (a ++ b) 0 0 ≡ getD a 0 0 = List·getD-append a b 0 0 (omega arith) in
     let y : getD (a ++ b) 1 0 ≡ getD a 1 0 = List·getD-append a b 0 1 (omega arith) in
-    rw (x, y) (pick-stays (eqb (getD a 0 0) 0) _ _ _ _ (payload-stays (getD a 1 0) a b) (λ k. refl) i)) g) h
+    rw (x, y) (payload-stays (256 * getD a 0 0 + getD a 1 0) a b i)) g) h

@@ -1,9 +1,8 @@
 -- A record has as many bytes as its length says and the two of the length, at least three, and they are all there.
-use Prim.Native.Nat.{ℕ, _+_, _*_, _≤_}
+use Prim.Native.Nat.{ℕ, _+_, _≤_}
 use mathlib.Core.Bool.{true}
 use mathlib.Core.Path.{_≡_, refl}
 use mathlib.Core.List.{List}
-use native.Mathlib.Nat.{zero-add}
 use native.Mathlib.Omega.{arith}
 use lib.Dec.{ltb, eqb}
 use lib.ListN.{length, getD}
@@ -13,7 +12,7 @@ use Rattle.base.proofs.Tests.{pick-both, pick-each}
 use Rattle.face.specs.declared.Action.{Action}
 use Rattle.records.specs.declared.Found.{Found}
 use Rattle.records.specs.declared.Found.the-variants.{Record, Nothing, Part, Malformed}
-use Rattle.records.specs.Records.{oneByte, twoBytes, threeBytes, payloadOf, nextOf}
+use Rattle.records.specs.Records.{oneByte, twoBytes, threeBytes, payloadOf, lengthOf, nextOf}
 
 -- a record's size lies between two bounds
 abbrev pub Within : ℕ → ℕ → Found → Type 0
@@ -53,8 +52,7 @@ next-within : (l : List ℕ) → Within 3 (length l) (nextOf l)
 unfolding nextOf
 next-within l =
     pick-both (Within 3 (length l)) (ltb (length l) 1) _ _ tt
-    (pick-both (Within 3 (length l)) (ltb (length l) 2) _ _ tt
-    (pick-both (Within 3 (length l)) (eqb (getD l 0 0) 0) _ _ (payload-within (getD l 1 0) l) tt))
+    (pick-both (Within 3 (length l)) (ltb (length l) 2) _ _ tt (payload-within (lengthOf l) l))
 
 pub record-within : (l : List ℕ) (a : Action) (size : ℕ) → nextOf l ≡ Record a size → (3 ≤ size) × (size ≤ length l)
 record-within l a size e = rw e at (next-within l)
@@ -93,15 +91,12 @@ payload-sized k l =
     (λ _. pick-each (Sized k) (eqb k 2) _ _ (λ h. of-length k 2 4 l _ h (two-sized (getD l 2 0) (getD l 3 0)))
     (λ _. pick-each (Sized k) (eqb k 3) _ _ (λ h. of-length k 3 5 l _ h (three-sized (getD l 2 0) (getD l 3 0) (getD l 4 0))) (λ _. tt)))
 
-next-sized : (l : List ℕ) → Sized (256 * getD l 0 0 + getD l 1 0) (nextOf l)
+next-sized : (l : List ℕ) → Sized (lengthOf l) (nextOf l)
 unfolding nextOf
 next-sized l =
-    pick-both P (ltb (length l) 1) _ _ tt
-    (pick-both P (ltb (length l) 2) _ _ tt (pick-each P (eqb (getD l 0 0) 0) _ _ (λ h. rw (eqb-true (getD l 0 0) 0 h, zero-add (getD l 1 0)) (payload-sized (getD l 1 0) l)) (λ _. tt)))
-  where
-    P : Found → Type 0
-    P = Sized (256 * getD l 0 0 + getD l 1 0)
+    pick-both (Sized (lengthOf l)) (ltb (length l) 1) _ _ tt
+    (pick-both (Sized (lengthOf l)) (ltb (length l) 2) _ _ tt (payload-sized (lengthOf l) l))
 
 -- "a two-byte big-endian length and payload"
-pub record-size : (l : List ℕ) (a : Action) (size : ℕ) → nextOf l ≡ Record a size → size ≡ 2 + (256 * getD l 0 0 + getD l 1 0)
+pub record-size : (l : List ℕ) (a : Action) (size : ℕ) → nextOf l ≡ Record a size → size ≡ 2 + lengthOf l
 record-size l a size e = rw e at (next-sized l)

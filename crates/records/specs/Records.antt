@@ -37,9 +37,12 @@ payloadOf n l =
     (pick (eqb n 2) (sized 4 l (twoBytes (getD l 2 0) (getD l 3 0)))
     (pick (eqb n 3) (sized 5 l (threeBytes (getD l 2 0) (getD l 3 0) (getD l 4 0))) Malformed))
 
+-- "a two-byte big-endian length"
+unfoldable pub lengthOf : List ℕ → ℕ
+lengthOf l = 256 * getD l 0 0 + getD l 1 0
+
 -- what the bytes start with
 unfoldable pub nextOf : List ℕ → Found
 nextOf l =
     pick (ltb (length l) 1) Nothing
-    (pick (ltb (length l) 2) Part
-    (pick (eqb (getD l 0 0) 0) (payloadOf (getD l 1 0) l) Malformed))
+    (pick (ltb (length l) 2) Part (payloadOf (lengthOf l) l))

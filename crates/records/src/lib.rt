@@ -1,9 +1,9 @@
 // A recording's records: the one that the bytes start with, and the bytes that answer it.
 ghost use mathlib.Core.Path.{_≡_};
-ghost use Prim.Native.Nat.{_+_, _*_, _≤_};
+ghost use Prim.Native.Nat.{_+_, _*_, _≤_, _<_};
 ghost use lib.ListN.{length};
 ghost use lib.Seq.{sets};
-ghost use Rattle.records.specs.Records.{oneByte, twoBytes, threeBytes, nextOf};
+ghost use Rattle.records.specs.Records.{oneByte, twoBytes, threeBytes, lengthOf, nextOf};
 ghost use Rattle.records.specs.Replies.{replyBytes, faultBytes};
 use face::Action;
 
@@ -64,8 +64,16 @@ fn three_bytes(kind: u8, first: u8, second: u8) -> Found
     Found::Malformed
 }
 
-// What the bytes start with.
-pub fn next(bytes: &[u8]) -> Found
+fn length_of(bytes: &[u8]) -> u16
+    requires { ⌜ 2 ≤ length (now bytes) ⌝ }
+    ensures { λ r. ⌜ r ≡ lengthOf (now (bytes .entry)) ⌝ }
+{
+    big_endian(bytes[0], bytes[1])
+}
+
+// Fewer bytes than any record has.
+fn short(bytes: &[u8]) -> Found
+    requires { ⌜ length (now bytes) < 3 ⌝ }
     ensures { λ r. ⌜ r ≡ nextOf (now (bytes .entry)) ⌝ }
 {
     if bytes.len() < 1 {
@@ -74,28 +82,41 @@ pub fn next(bytes: &[u8]) -> Found
     if bytes.len() < 2 {
         return Found::Part;
     }
-    let high = bytes[0];
-    let low = bytes[1];
-    if high == 0 {
-        if low == 1 {
-            if bytes.len() < 3 {
-                return Found::Part;
-            }
-            return one_byte(bytes[2]);
+    let length = length_of(bytes);
+    if length == 1 {
+        return Found::Part;
+    }
+    if length == 2 {
+        return Found::Part;
+    }
+    if length == 3 {
+        return Found::Part;
+    }
+    Found::Malformed
+}
+
+// What the bytes start with.
+pub fn next(bytes: &[u8]) -> Found
+    ensures { λ r. ⌜ r ≡ nextOf (now (bytes .entry)) ⌝ }
+{
+    if bytes.len() < 3 {
+        return short(bytes);
+    }
+    let length = length_of(bytes);
+    if length == 1 {
+        return one_byte(bytes[2]);
+    }
+    if length == 2 {
+        if bytes.len() < 4 {
+            return Found::Part;
         }
-        if low == 2 {
-            if bytes.len() < 4 {
-                return Found::Part;
-            }
-            return two_bytes(bytes[2], bytes[3]);
+        return two_bytes(bytes[2], bytes[3]);
+    }
+    if length == 3 {
+        if bytes.len() < 5 {
+            return Found::Part;
         }
-        if low == 3 {
-            if bytes.len() < 5 {
-                return Found::Part;
-            }
-            return three_bytes(bytes[2], bytes[3], bytes[4]);
-        }
-        return Found::Malformed;
+        return three_bytes(bytes[2], bytes[3], bytes[4]);
     }
     Found::Malformed
 }
