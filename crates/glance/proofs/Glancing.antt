@@ -152,8 +152,8 @@ write-buffer (TakingPassword p) word b w = refl
 -- a glance leaves the buffer as the fast path does
 pub glance-buffer : (h : Hot) (word : ℕ) (raised : Bool) (b : List ℕ) (a : Action) → glanceBuffer h word b a ≡ quickAloneBuffer (hotAt h word raised) b a
 unfolding quickAloneBuffer ignoredOf quickBuffer glanceBuffer
-glance-buffer h word raised b (ReadRegister n) = pick-both (λ (x : List ℕ). b ≡ x) _ b b refl refl
-glance-buffer h word raised b (WriteRegister n v) = pick-both (λ (x : List ℕ). b ≡ x) _ b b refl refl
+glance-buffer h word raised b (ReadRegister n) = pick-both (λ (x : List ℕ). b ≡ x) (ignoredOf (hotAt h word raised) (ReadRegister n)) b b refl refl
+glance-buffer h word raised b (WriteRegister n v) = pick-both (λ (x : List ℕ). b ≡ x) (ignoredOf (hotAt h word raised) (WriteRegister n v)) b b refl refl
 glance-buffer h word raised b ReadWord = refl
 glance-buffer h word raised b (WriteWord w) = write-buffer (h .transfer) word b w
 glance-buffer h word raised b HardwareReset = refl

@@ -43,7 +43,7 @@ pub quick-carries : (l b out : List ℕ) (s : Stand) → Stands l out s → 0 < 
     → (out′ : List ℕ) → out′ ≡ sets out (s .put) (replyBytes (numberOf (x .answer)) (valueOf (x .answer) (x .value)))
     → Carries l s b out (standAt (x .hot) (s .at + size) (s .put + 5) (s .left - 1)) b′ out′
 quick-carries l b out s h g a size e x q b′ f out′ o =
-    let y : length out′ ≡ length out = ap length o ∙ length-sets _ _ _ in
+    let y : length out′ ≡ length out = ap length o ∙ length-sets out (s .put) (replyBytes (numberOf (x .answer)) (valueOf (x .answer) (x .value))) in
     let v : size ≤ length l - s .at = rest-within l (s .at) a size e in
     let below : s .at ≤ length l = h .below in
     let room : s .put + 5 * (s .left + 1) ≤ length out = h .room in

@@ -159,10 +159,10 @@ playing-rests {w} {last} {l} {out₀} {k} {n} {d} {m} {out} {at} {put} p stage e
     }
 
 -- the loop stops at a fault
-playing-fault : {w : Play} {last : Bool} {l out₀ : List ℕ} {k n : ℕ} {d : Device} {m out : List ℕ} {at put : ℕ}
+playing-fault : {w : Play} {last : Bool} {l out₀ : List ℕ} {k : ℕ} (n : ℕ) {d : Device} {m out : List ℕ} {at put : ℕ}
     → Playing w last l out₀ k (n + 1) d m out at put → playOf last (n + 1) d m (drop at l) ≡ rests d m faultBytes Over
     → (out′ : List ℕ) → out′ ≡ sets out put faultBytes → Gives w (came d Over at (put + 3)) m out₀ out′
-playing-fault {w} {last} {l} {out₀} {k} {n} {d} {m} {out} {at} {put} p e out′ o =
+playing-fault {w} {last} {l} {out₀} {k} n {d} {m} {out} {at} {put} p e out′ o =
     let x : put + 5 * (n + 1) ≤ length out₀ = p .room in
     let z : length (p .wrote ++ faultBytes) ≡ put + 3 = length-append (p .wrote) faultBytes ∙ ap (λ (i : ℕ). i + 3) (p .long) in
     let q : w ≡ record { device = d; sectors = m; taken = at; reply = p .wrote ++ faultBytes; stage = Over } =
@@ -179,22 +179,22 @@ playing-fault {w} {last} {l} {out₀} {k} {n} {d} {m} {out} {at} {put} p e out�
     }
 
 -- no whole record is there: the loop stops, at a fault where none can come
-playing-cut : {w : Play} {last : Bool} {l out₀ : List ℕ} {k n : ℕ} {d : Device} {m out : List ℕ} {at put : ℕ}
+playing-cut : {w : Play} {last : Bool} {l out₀ : List ℕ} {k : ℕ} (n : ℕ) {d : Device} {m out : List ℕ} {at put : ℕ}
     → Playing w last l out₀ k (n + 1) d m out at put → (b : Bool) → playOf last (n + 1) d m (drop at l) ≡ cutShort b d m
     → (out′ : List ℕ) → out′ ≡ cutReply b out put → Gives w (came d (cutStage b) at (cutMade b put)) m out₀ out′
 unfolding cutReply cutMade
-playing-cut p true e out′ o = playing-fault p e out′ o
-playing-cut {out₀ = out₀} {m = m} p false e out′ o = go (playing-rests p Replaying e) o
+playing-cut n p true e out′ o = playing-fault n p e out′ o
+playing-cut {out₀ = out₀} n {m = m} p false e out′ o = go (playing-rests p Replaying e) o
   where
     go : {w : Play} {r : _} {out : List ℕ} → Gives w r m out₀ out → out′ ≡ out → Gives w r m out₀ out′
     go g i = rw i g
 
-pub playing-part : {w : Play} {last : Bool} {l out₀ : List ℕ} {k n : ℕ} {d : Device} {m out : List ℕ} {at put : ℕ}
+pub playing-part : {w : Play} {last : Bool} {l out₀ : List ℕ} {k : ℕ} (n : ℕ) {d : Device} {m out : List ℕ} {at put : ℕ}
     → Playing w last l out₀ k (n + 1) d m out at put → nextOf (drop at l) ≡ Part
     → (out′ : List ℕ) → out′ ≡ cutReply last out put → Gives w (came d (cutStage last) at (cutMade last put)) m out₀ out′
-playing-part {last = last} p e out′ o = playing-cut p last (play-part _ _ _ _ _ e) out′ o
+playing-part {last = last} n p e out′ o = playing-cut n p last (play-part _ _ _ _ _ e) out′ o
 
-pub playing-malformed : {w : Play} {last : Bool} {l out₀ : List ℕ} {k n : ℕ} {d : Device} {m out : List ℕ} {at put : ℕ}
+pub playing-malformed : {w : Play} {last : Bool} {l out₀ : List ℕ} {k : ℕ} (n : ℕ) {d : Device} {m out : List ℕ} {at put : ℕ}
     → Playing w last l out₀ k (n + 1) d m out at put → nextOf (drop at l) ≡ Malformed
     → (out′ : List ℕ) → out′ ≡ cutReply true out put → Gives w (came d (cutStage true) at (cutMade true put)) m out₀ out′
-playing-malformed p e out′ o = playing-cut p true (play-malformed _ _ _ _ _ e) out′ o
+playing-malformed n p e out′ o = playing-cut n p true (play-malformed _ _ _ _ _ e) out′ o

@@ -107,7 +107,7 @@ pub struct Stand {
     pub left: usize,
 }
 
-fn stand(hot: Hot, at: usize, put: usize, left: usize) -> Stand
+fn standing(hot: Hot, at: usize, put: usize, left: usize) -> Stand
     ensures { λ r. ⌜ r ≡ standAt hot at put left ⌝ }
 {
     Stand { hot, at, put, left }
@@ -119,7 +119,8 @@ fn glide(from: Stand, buffer: &mut [u8; 512], rec: &[u8], out: &mut [u8]) -> Sta
     ensures { λ r. ⌜ Carries (now (rec .entry)) from (now (buffer .entry)) (now (out .entry)) r (now (buffer .exit)) (now (out .exit)) ⌝ }
 {
     let hot = from.hot;
-    let mut word = glance::place_of(hot.transfer);
+    let transfer = hot.transfer;
+    let mut word = glance::place_of(transfer);
     let mut raised = hot.signals.raised;
     let mut at = from.at;
     let mut put = from.put;
@@ -135,14 +136,14 @@ fn glide(from: Stand, buffer: &mut [u8; 512], rec: &[u8], out: &mut [u8]) -> Sta
                     at = at + size;
                     left = left - 1;
                 }
-                Glance::Beyond => return stand(glance::hot_at(hot, word, raised), at, put, left),
+                Glance::Beyond => return standing(glance::hot_at(hot, word, raised), at, put, left),
             },
-            Found::Nothing => return stand(glance::hot_at(hot, word, raised), at, put, left),
-            Found::Part => return stand(glance::hot_at(hot, word, raised), at, put, left),
-            Found::Malformed => return stand(glance::hot_at(hot, word, raised), at, put, left),
+            Found::Nothing => return standing(glance::hot_at(hot, word, raised), at, put, left),
+            Found::Part => return standing(glance::hot_at(hot, word, raised), at, put, left),
+            Found::Malformed => return standing(glance::hot_at(hot, word, raised), at, put, left),
         }
     }
-    stand(glance::hot_at(hot, word, raised), at, put, left)
+    standing(glance::hot_at(hot, word, raised), at, put, left)
 }
 
 // Replays the records that the hot part and the buffer settle.
@@ -150,23 +151,31 @@ fn swift(from: Stand, buffer: &mut [u8; 512], rec: &[u8], out: &mut [u8]) -> Sta
     requires { ⌜ Stands (now rec) (now out) from ⌝ }
     ensures { λ r. ⌜ Carries (now (rec .entry)) from (now (buffer .entry)) (now (out .entry)) r (now (buffer .exit)) (now (out .exit)) ⌝ }
 {
-    let mut far = glide(from, buffer, rec, out);
-    while 0 < far.left {
-        match records::next(&rec[far.at..]) {
-            Found::Record(action, size) => match device::quick(far.hot, buffer, action) {
+    let start = glide(from, buffer, rec, out);
+    let mut hot = start.hot;
+    let mut at = start.at;
+    let mut put = start.put;
+    let mut left = start.left;
+    while 0 < left {
+        match records::next(&rec[at..]) {
+            Found::Record(action, size) => match device::quick(hot, buffer, action) {
                 Quick::Settles(seen) => {
-                    answer(out, far.put, seen);
-                    let onward = stand(seen.hot, far.at + size, far.put + 5, far.left - 1);
-                    far = glide(onward, buffer, rec, out);
+                    answer(out, put, seen);
+                    let onward = standing(seen.hot, at + size, put + 5, left - 1);
+                    let far = glide(onward, buffer, rec, out);
+                    hot = far.hot;
+                    at = far.at;
+                    put = far.put;
+                    left = far.left;
                 }
-                Quick::Slow => return far,
+                Quick::Slow => return standing(hot, at, put, left),
             },
-            Found::Nothing => return far,
-            Found::Part => return far,
-            Found::Malformed => return far,
+            Found::Nothing => return standing(hot, at, put, left),
+            Found::Part => return standing(hot, at, put, left),
+            Found::Malformed => return standing(hot, at, put, left),
         }
     }
-    far
+    standing(hot, at, put, left)
 }
 
 // Replays whole records from where it came on, until the reply is full or the bytes are used up.
@@ -182,7 +191,7 @@ pub fn play(from: Came, sectors: &mut [u8], rec: &[u8], last: bool, out: &mut [u
     let mut put = from.made;
     let mut left = (out.len() - put) / 5;
     while 0 < left {
-        let far = swift(stand(hot, at, put, left - 1), &mut buffer, rec, out);
+        let far = swift(standing(hot, at, put, left - 1), &mut buffer, rec, out);
         hot = far.hot;
         at = far.at;
         put = far.put;
