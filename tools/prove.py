@@ -15,7 +15,7 @@ Left is a need, or a pattern that names several; right its answer, which may go 
   unfolding A B;   the definitions that the answer opens
   {thing}          the path, at that need, to what a call, a test, a loop or an arm told: `c .before .thing`
   {path}           `simp` over all that the calls, tests and arms on the way to that need told
-  @name            what the recipe says under `@name`, for a term that several answers share
+  @name            what the recipe says under `@name`, for a term that several answers share; it may name others
 Needs without an answer get `search needs`. For a loop, `Inv-loop` and `μ-loop` are answered too.
 
 What a call tells goes by its result's type, which is looked up by the function's bare name over all crates: two functions
@@ -232,7 +232,8 @@ class Proof:
 
     def answer(self, need, head):
         answer, opened = answer_of(self.recipe, need), ''
-        answer = re.sub(r'@[\w-]+', lambda m: self.recipe[m.group(0)], answer)
+        while '@' in answer:
+            answer = re.sub(r'@[\w-]+', lambda m: self.recipe[m.group(0)], answer)
         m = re.match(r'unfolding ([^;]*);\s*', answer)
         if m:
             opened, answer = f'unfolding {m.group(1).strip()}\n', answer[m.end():]

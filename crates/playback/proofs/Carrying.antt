@@ -27,12 +27,15 @@ use Rattle.playback.specs.declared.Stand.{Stand}
 use Rattle.playback.proofs.Playing.{rest-within, playing-more, playing-left}
 
 pub carries-none : (l b out : List ℕ) (s : Stand) → Stands l out s → Carries l s b out s b out
-carries-none l b out s h = record { stands = h; all = refl; carries = λ whole last out₀ memory d m p. p }
+carries-none l b out s h = record { stands = h; fewer = omega arith; all = refl; carries = λ whole last out₀ memory d m p. p }
 
 pub carries-then : {l b out b′ out′ b″ out″ : List ℕ} {s t u : Stand} → Carries l s b out t b′ out′ → Carries l t b′ out′ u b″ out″ → Carries l s b out u b″ out″
-carries-then f g =
+carries-then {s = s} {t = t} {u = u} f g =
+    let x : t .left ≤ s .left = f .fewer in
+    let y : u .left ≤ t .left = g .fewer in
     record {
       stands = g .stands;
+      fewer = omega arith;
       all = g .all ∙ f .all;
       carries = λ whole last out₀ memory d m p. g .carries whole last out₀ memory d m (f .carries whole last out₀ memory d m p);
     }
@@ -49,6 +52,7 @@ quick-carries l b out s h g a size e x q b′ f out′ o =
     let room : s .put + 5 * (s .left + 1) ≤ length out = h .room in
     record {
       stands = record { below = omega arith; room = omega arith };
+      fewer = omega arith;
       all = y;
       carries =
           λ whole last out₀ memory d m p. playing-more (playing-left p ((s .left - 1 + 1) + 1) (omega arith)) a size e _

@@ -35,6 +35,7 @@ pub record Stands (l out : List ℕ) (s : Stand) : Type 0 where
 -- a replay that came to `s` comes, by the same records, to `t`, whatever else the device holds and whatever the sectors are
 pub record Carries (l : List ℕ) (s : Stand) (b out : List ℕ) (t : Stand) (b′ out′ : List ℕ) : Type 0 where
   pub stands : Stands l out′ t
+  pub fewer : t .left ≤ s .left
   pub all : length out′ ≡ length out
   pub carries : (whole : Play) (last : Bool) (out₀ : List ℕ) (memory : ℕ) (d : Device) (m : List ℕ)
       → Playing whole last l out₀ memory (s .left + 1) (wholeOf d (s .hot) b) m out (s .at) (s .put)
