@@ -16,13 +16,12 @@ use Rattle.device.specs.Alone.{valueOf, quickAlone, quickAloneBuffer}
 use Rattle.device.proofs.FastStep.{quick-settles}
 use Rattle.glance.specs.Places.{placeOf, hotAt}
 use Rattle.glance.specs.Glances.{glanceOf, glanceBuffer}
-use Rattle.glance.specs.declared.Glance.the-variants.{Shows, Beyond}
-use Rattle.glance.proofs.Glancing.{hot-same, glance-settles, glance-buffer, glance-leaves}
+use Rattle.glance.specs.declared.Glance.the-variants.{Shows}
+use Rattle.glance.proofs.Glancing.{hot-same, glance-settles, glance-buffer}
 use Rattle.records.specs.Records.{nextOf}
 use Rattle.records.specs.Replies.{replyBytes}
 use Rattle.records.specs.declared.Found.the-variants.{Record}
-use Rattle.playback.specs.Parts.{wholeOf}
-use Rattle.playback.specs.Loops.{standAt, Stands, Carries}
+use Rattle.playback.specs.Loops.{wholeOf, standAt, Stands, Carries}
 use Rattle.playback.specs.declared.Stand.{Stand}
 use Rattle.playback.proofs.Playing.{rest-within, playing-more, playing-left}
 

@@ -4,12 +4,17 @@ use mathlib.Core.Bool.{Bool}
 use mathlib.Core.Path.{_≡_}
 use mathlib.Core.List.{List, _++_}
 use lib.ListN.{length, drop}
+use Rattle.face.specs.Face.{withHot, withBuffer}
 use Rattle.face.specs.declared.Hot.{Hot}
+use Rattle.device.specs.Alone.{deviceOf}
 use Rattle.device.specs.Host.{Ready}
 use Rattle.device.specs.declared.Device.{Device}
 use Rattle.playback.specs.Replay.{Play, onto, playOf}
-use Rattle.playback.specs.Parts.{wholeOf}
 use Rattle.playback.specs.declared.Stand.{Stand}
+
+-- the device, of which the loops hold the hot part and the buffer apart
+abbrev pub wholeOf : Device → Hot → List ℕ → Device
+wholeOf d h b = deviceOf (withHot (withBuffer (d .face) b) h) (d .secrets)
 
 -- of `whole`, the records before place `at` are replayed into out₀ up to `put`; n more fit
 pub record Playing (whole : Play) (last : Bool) (l out₀ : List ℕ) (memory : ℕ) (n : ℕ) (d : Device) (m out : List ℕ) (at put : ℕ) : Type 0 where

@@ -10,8 +10,8 @@ use lib.Seq.{sets, sets-eq}
 use Rattle.device.specs.Host.{Ready}
 use Rattle.device.specs.declared.Device.{Device}
 use Rattle.playback.specs.Replay.{Play, rests, onto, playOf, versionFault}
-use Rattle.playback.specs.Parts.{partOf, came, Gives}
-use Rattle.playback.specs.declared.Came.{Came}
+use Rattle.player.specs.Parts.{partOf, came, Gives}
+use Rattle.player.specs.declared.Came.{Came}
 use Rattle.playback.specs.declared.Stage.{Stage}
 use Rattle.playback.specs.declared.Stage.the-variants.{Over}
 

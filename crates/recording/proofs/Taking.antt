@@ -18,8 +18,8 @@ use Rattle.records.specs.declared.Found.{Found}
 use Rattle.records.specs.declared.Found.the-variants.{Record, Nothing, Part, Malformed}
 use Rattle.records.proofs.Sizes.{record-within}
 use Rattle.playback.specs.Replay.{Play, playAs, playOf}
-use Rattle.playback.specs.Parts.{Gives}
-use Rattle.playback.specs.declared.Came.{Came}
+use Rattle.player.specs.Parts.{Gives}
+use Rattle.player.specs.declared.Came.{Came}
 use Rattle.playback.specs.declared.Stage.{Stage}
 use Rattle.playback.specs.declared.Stage.the-variants.{Opening, Replaying, Over}
 use Rattle.recording.specs.Turns.{openOf, turnAs, leastOf, Turned, takenOf, turnedAway, turnOf, Leaves}

@@ -21,8 +21,8 @@ use Rattle.laws.proofs.Refusals.{setup-within}
 use Rattle.laws.proofs.Reached.{fresh-shaped}
 use Rattle.face.specs.declared.Answer.the-variants.{Done}
 use Rattle.playback.specs.Replay.{Play, spaces, replayDevice, zeroSectors, isOver}
-use Rattle.playback.specs.Parts.{Gives}
-use Rattle.playback.specs.declared.Came.{Came}
+use Rattle.player.specs.Parts.{Gives}
+use Rattle.player.specs.declared.Came.{Came}
 use Rattle.playback.specs.declared.Stage.the-variants.{Opening}
 use Rattle.recording.specs.Turns.{startOf, turnAs, wholePlay, replayed, replayedOf}
 use Rattle.recording.specs.declared.Stream.{Stream}

@@ -6,13 +6,13 @@ ghost use lib.ListN.{length, take, drop};
 ghost use lib.Seq.{sets};
 ghost use Rattle.device.specs.Host.{Ready};
 ghost use Rattle.playback.specs.Replay.{spaces, versionFault};
-ghost use Rattle.playback.specs.Parts.{Gives};
+ghost use Rattle.player.specs.Parts.{Gives};
 ghost use Rattle.recording.specs.Turns.{startOf, turnAs, leastOf, takenOf, awayOf, turnOf, Leaves, wholePlay, replayedOf};
 use device::Device;
 use face::Answer;
 use geometry::Geometry;
-use playback::Came;
 use playback::Stage;
+use player::Came;
 use settled::Identity;
 
 // A replay between two turns.
@@ -51,23 +51,23 @@ fn begin(device: Device, sectors: &mut [u8], rec: &[u8], last: bool, out: &mut [
     ensures { λ r. ⌜ Gives (turnAs Stage.Opening last (length (now (out .entry))) device (now (sectors .entry)) (now (rec .entry))) r (now (sectors .exit)) (now (out .entry)) (now (out .exit)) ⌝ }
 {
     if out.len() < 4 {
-        return playback::halt(device, Stage::Opening, 0, 0);
+        return player::halt(device, Stage::Opening, 0, 0);
     }
     if rec.len() < 1 {
         if last {
             version_fault(out);
-            return playback::halt(device, Stage::Over, 0, 4);
+            return player::halt(device, Stage::Over, 0, 4);
         }
-        return playback::halt(device, Stage::Opening, 0, 0);
+        return player::halt(device, Stage::Opening, 0, 0);
     }
     let version = rec[0];
     if version == 1 {
         out[0] = 1;
-        let opened = playback::halt(device, Stage::Replaying, 1, 1);
-        return playback::play(opened, sectors, rec, last, out);
+        let opened = player::halt(device, Stage::Replaying, 1, 1);
+        return player::play(opened, sectors, rec, last, out);
     }
     version_fault(out);
-    playback::halt(device, Stage::Over, 0, 4)
+    player::halt(device, Stage::Over, 0, 4)
 }
 
 // How far the bytes bring a replay that stands there.
@@ -85,10 +85,10 @@ fn part(
     match stage {
         Stage::Opening => begin(device, sectors, rec, last, out),
         Stage::Replaying => {
-            let here = playback::halt(device, Stage::Replaying, 0, 0);
-            playback::play(here, sectors, rec, last, out)
+            let here = player::halt(device, Stage::Replaying, 0, 0);
+            player::play(here, sectors, rec, last, out)
         }
-        Stage::Over => playback::halt(device, Stage::Over, 0, 0),
+        Stage::Over => player::halt(device, Stage::Over, 0, 0),
     }
 }
 

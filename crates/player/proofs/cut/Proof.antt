@@ -1,9 +1,9 @@
 -- The test is the definition's.
-use Rattle.playback.specs.Parts.{cutMade, cutReply}
+use Rattle.player.specs.Parts.{cutMade, cutReply}
 use borrow.Author.Needs.{needs}
 use mathlib.Core.Path.{refl}
-use Rattle.playback.proofs.cut.Statement.{statement}
-use Rattle.playback.proofs.cut.Tie as tie
+use Rattle.player.proofs.cut.Statement.{statement}
+use Rattle.player.proofs.cut.Tie as tie
 
 fault-requires : tie.Need-fault-requires
 fault-requires c κs = search needs

@@ -6,20 +6,13 @@ use mathlib.Core.List.{List, _++_}
 use lib.ListN.{length, take, drop}
 use lib.Seq.{sets}
 use Rattle.base.specs.Choice.{pick}
-use Rattle.face.specs.Face.{withHot, withBuffer}
-use Rattle.face.specs.declared.Hot.{Hot}
-use Rattle.device.specs.Alone.{deviceOf}
 use Rattle.device.specs.Host.{Ready}
 use Rattle.device.specs.declared.Device.{Device}
 use Rattle.records.specs.Replies.{faultBytes}
 use Rattle.playback.specs.Replay.{Play, onto, playOf}
-use Rattle.playback.specs.declared.Came.{Came}
+use Rattle.player.specs.declared.Came.{Came}
 use Rattle.playback.specs.declared.Stage.{Stage}
 use Rattle.playback.specs.declared.Stage.the-variants.{Replaying, Over}
-
--- the device, of which the loop holds the hot part and the buffer apart
-abbrev pub wholeOf : Device → Hot → List ℕ → Device
-wholeOf d h b = deviceOf (withHot (withBuffer (d .face) b) h) (d .secrets)
 
 -- the records from place `at` on, behind the reply's first `put` bytes
 abbrev pub partOf : Bool → Device → List ℕ → List ℕ → ℕ → List ℕ → ℕ → Play

@@ -2,15 +2,16 @@
 use Prim.Native.Nat.{_+_, _-_}
 use Rattle.base.proofs.Lists.{below}
 use Rattle.device.proofs.Memories.{shaped-memory}
-use Rattle.playback.proofs.Playing.{play-full, play-nothing, playing-after, playing-as, playing-left, playing-malformed, playing-none, playing-part, playing-rests, rest-starts, rest-within}
-use Rattle.playback.specs.Loops.{Playing}
-use Rattle.playback.specs.Parts.{partOf, wholeOf}
+use Rattle.playback.proofs.Playing.{playing-left, rest-starts, rest-within}
+use Rattle.playback.specs.Loops.{Playing, wholeOf}
+use Rattle.player.proofs.Ends.{play-full, play-nothing, playing-after, playing-as, playing-malformed, playing-none, playing-part, playing-rests}
+use Rattle.player.specs.Parts.{partOf}
 use borrow.Author.Needs.{needs}
 use lib.ListN.{length}
 use mathlib.Core.Path.{_∙_}
 use native.Mathlib.Omega.{arith}
-use Rattle.playback.proofs.play.Statement.{statement}
-use Rattle.playback.proofs.play.Tie as tie
+use Rattle.player.proofs.play.Statement.{statement}
+use Rattle.player.proofs.play.Tie as tie
 
 abbrev Inv-loop : tie.InvT-loop
 Inv-loop sectors₀ rec last out₀ device₀ hot₀ buffer₀ at₀ put₀ left₀ sectors out device hot buffer at put left = Playing (partOf last device₀ sectors₀ rec at₀ out₀ put₀) last rec out₀ (length sectors₀) left (wholeOf device hot buffer) sectors out at put

@@ -1,7 +1,7 @@
 -- The parts, put in place.
 use borrow.Author.Needs.{needs}
-use Rattle.playback.proofs.whole.Statement.{statement}
-use Rattle.playback.proofs.whole.Tie as tie
+use Rattle.player.proofs.whole.Statement.{statement}
+use Rattle.player.proofs.whole.Tie as tie
 
 with-buffer-requires : tie.Need-with-buffer-requires
 with-buffer-requires c κs = search needs
