@@ -16,9 +16,10 @@ pub enum Glance {
 }
 
 // The place of the transfer's next word.
-pub fn place_of(transfer: Transfer) -> u8
-    ensures { λ r. ⌜ r ≡ placeOf transfer ⌝ }
+pub fn place_of(hot: Hot) -> u8
+    ensures { λ r. ⌜ r ≡ placeOf (hot .transfer) ⌝ }
 {
+    let transfer = hot.transfer;
     match transfer {
         Transfer::Idle => 0,
         Transfer::Reading(r) => r.word,

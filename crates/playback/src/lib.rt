@@ -65,8 +65,7 @@ fn glide(from: Stand, buffer: &mut [u8; 512], rec: &[u8], out: &mut [u8]) -> Sta
     ensures { λ r. ⌜ Carries (now (rec .entry)) from (now (buffer .entry)) (now (out .entry)) r (now (buffer .exit)) (now (out .exit)) ⌝ }
 {
     let hot = from.hot;
-    let transfer = hot.transfer;
-    let mut word = glance::place_of(transfer);
+    let mut word = glance::place_of(hot);
     let mut raised = hot.signals.raised;
     let mut at = from.at;
     let mut put = from.put;
