@@ -41,7 +41,7 @@ abbrev glanceThen : Hot → Transfer → Glance → Quick → Quick
 glanceThen h t (Shows word raised v) quick = Settles (seen (hotWith h t word raised) Done v)
 glanceThen h t Beyond quick = quick
 
--- an equation with nothing settled is one with the fast path settled by itself
+-- what is shown with Slow in the fast path's place holds with the fast path itself: a glance that shows needs neither
 quick-again : (q : Quick) (h : Hot) (t : Transfer) (g : Glance) → q ≡ glanceThen h t g Slow → q ≡ glanceThen h t g q
 quick-again q h t (Shows word raised v) e = e
 quick-again q h t Beyond e = refl
