@@ -18,7 +18,7 @@ import tree  # noqa: E402
 from tree import read  # noqa: E402
 
 LONGEST_FUNCTION = 40  # lines
-LARGEST_SHARE = 6  # one crate's check takes at most the sixth part of all checks' time
+LARGEST_SHARE = 15  # one crate's check, in 100 of all checks' time
 MADE = ['./.git', './target', './build', './tools/__pycache__', './tests/__pycache__']  # folders that hold nothing written by hand
 
 
@@ -87,7 +87,7 @@ def crates_check_quickly(log):
     """No crate has grown to a large share of the whole check. Shares, unlike seconds, are the same on every machine."""
     times = {name: int(seconds) for name, seconds in re.findall(r'^rt: (\w+) proved \((\d+) s\)', log, re.M)}
     missing = [f'no time for {name}' for name in tree.crates() if name not in times]
-    most = sum(times.values()) / LARGEST_SHARE
+    most = sum(times.values()) * LARGEST_SHARE / 100
     return missing + [f'{name} took {seconds} s of {sum(times.values())}' for name, seconds in times.items() if most < seconds]
 
 
