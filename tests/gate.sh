@@ -4,7 +4,8 @@
 set -u
 cd "$(dirname "$0")/.." || exit 2
 log=$(mktemp) || exit 2
-trap 'rm -f "$log"' EXIT
+rust_log=$(mktemp) || exit 2
+trap 'rm -f "$log" "$rust_log"' EXIT
 parts='' failed=0
 . tools/programs.sh
 
@@ -41,6 +42,15 @@ rust_tests() {
     done
 }
 
+# What rust_tests, which runs beside the proofs, printed, and whether it passed.
+rust_told() {
+    local status
+    wait "$rust_job"
+    status=$?
+    cat "$rust_log"
+    return "$status"
+}
+
 recordings() {
     python3 -m unittest --quiet tests/recordings_test.py && tools/recordings.py check "$replay" "$second"
 }
@@ -54,8 +64,14 @@ tools/install.sh python3 || exit 2
 
 # With a stand-in the parts can be tried, but the verdict is not the proved program's.
 [ -z "${REPLAY:-}" ] || part 'stand-in' false
+# A slip in a text is found before anything is proved.
+python3 tests/repository.py >"$log" 2>&1 || { cat "$log"; echo '0 passed, 1 failed'; exit 1; }
+
+# The lowest crates stand on one another and leave a processor free: the Rust packages, which need no proof, take it.
+rust_tests >"$rust_log" 2>&1 &
+rust_job=$!
 part 'proofs and edits' prove
-part 'second program' rust_tests
+part 'second program' rust_told
 part 'recordings' recordings
 part 'program' python3 tests/program.py "$replay" "$second" "$differential"
 part 'differential' compare

@@ -1,7 +1,8 @@
 #!/usr/bin/env python3
 """What the prover does not look at: that the repository's parts agree with one another.
 
-    tests/repository.py LOG     (at the repository's root, after rt ci, whose output LOG holds)
+    tests/repository.py         (at the repository's root: what can be seen before anything is proved)
+    tests/repository.py LOG     (after rt ci, whose output LOG holds: all of it)
 
 Each check gives a list of complaints; one complaint fails the run.
 """
@@ -18,6 +19,7 @@ import tree  # noqa: E402
 from tree import read  # noqa: E402
 
 LONGEST_FUNCTION = 40  # lines
+MOST_FUNCTIONS = 40  # a crate stays below
 LARGEST_SHARE = 15  # one crate's check, in 100 of all checks' time
 MADE = ['./.git', './target', './build', './tools/__pycache__', './tests/__pycache__']  # folders that hold nothing written by hand
 
@@ -72,6 +74,14 @@ def functions_are_short(_):
     return [f'{name} has {lines} lines' for name, lines in lengths() if LONGEST_FUNCTION < lines]
 
 
+def crates_are_small(_):
+    numbers = {}
+    for name, *_ in all_functions():
+        crate = name.split('::')[0]
+        numbers[crate] = numbers.get(crate, 0) + 1
+    return [f'{crate} has {number} functions' for crate, number in numbers.items() if MOST_FUNCTIONS <= number]
+
+
 def no_folder_of_one_machine_is_named(_):
     """Files name places within the repository, or of every Linux."""
     complaints = []
@@ -112,6 +122,19 @@ def imports_are_used(_):
 
 # What the check says where a proof file does not fit the code's shape, which shows nothing of the facts.
 UNFIT = ['has no `Need-', 'expected type `tie.Need-', 'expected type `Need-', 'is not in scope', 'has no field']
+
+
+def edits_find_their_text(_):
+    """Each text that a must-fail edit replaces stands once in its file."""
+    complaints = []
+    for edit in sorted(glob.glob('crates/*/must-fail/*.edit')):
+        file = None
+        for line in read(edit).splitlines():
+            if line.startswith('file: '):
+                file = os.path.join(os.path.dirname(os.path.dirname(edit)), line[len('file: '):])
+            elif line.startswith('old: ') and read(file).count(line[len('old: '):]) != 1:
+                complaints.append(f'{edit}: not once in {file}: {line[len("old: "):]}')
+    return complaints
 
 
 def edits_reach_a_proof(_):
@@ -172,14 +195,15 @@ def laws_that_are_named_exist(_):
     return [f'{name} is no law' for name in re.findall(r'`([^`]+)`', table) if name not in there]
 
 
-CHECKS = [crates_are_listed, layout_is_kept, functions_are_short, no_folder_of_one_machine_is_named, crates_check_quickly,
-          proofs_have_recipes, imports_are_used, edits_reach_a_proof, promises_name_every_call, slips_have_edits,
-          rules_name_every_definition, laws_that_are_named_exist]
+CHECKS = [crates_are_listed, layout_is_kept, functions_are_short, crates_are_small, no_folder_of_one_machine_is_named, proofs_have_recipes,
+          imports_are_used, edits_find_their_text, promises_name_every_call, slips_have_edits, rules_name_every_definition,
+          laws_that_are_named_exist]
+CHECKS_OF_A_RUN = [crates_check_quickly, edits_reach_a_proof]
 
 
 def main():
-    log, bad = read(sys.argv[1]), 0
-    for check in CHECKS:
+    log, bad = read(sys.argv[1]) if sys.argv[1:] else None, 0
+    for check in CHECKS + (CHECKS_OF_A_RUN if sys.argv[1:] else []):
         complaints = check(log)
         bad += len(complaints)
         print(f'repository: {check.__name__.replace("_", " ")}: ' + ('FAILED' if complaints else 'yes'))

@@ -18,8 +18,8 @@ Left is a need, or a pattern that names several; right its answer, which may go 
   @name            what the recipe says under `@name`, for a term that several answers share; it may name others
 Needs without an answer get `search needs`. For a loop, `Inv-loop` and `μ-loop` are answered too.
 
-What a call tells goes by its result's type, which is looked up by the function's bare name over all crates: two functions
-of one name need one kind of result. Names of the kit that an answer cites stand in KIT below.
+What a call tells goes by its result's type, which is looked up by the function's bare name over this crate and those that
+crates.txt lists before it: two functions of one name need one kind of result there. Names of the kit that an answer cites stand in KIT below.
 """
 import fnmatch
 import glob
@@ -162,11 +162,11 @@ def conditions(crate, function):
     return re.findall(r'\bif (?!let )(.*?) \{\n', body[body.rfind(f'fn {name}('):])
 
 
-def calls_of_all_crates():
-    """{function: (result type, whether it ensures two things)}, and the names of the enums."""
-    calls = {'enums': set()}
-    for path in glob.glob('crates/*/src/*.rt'):
-        text = read(path)
+def calls_up_to(crate):
+    """{function: (result type, whether it ensures two things)}, and the names of the enums, of the crate and those listed before it."""
+    calls, listed = {'enums': set()}, tree.crates()
+    for name in listed[:listed.index(crate) + 1]:
+        text = ''.join(read(path) for path in glob.glob(f'crates/{name}/src/*.rt'))
         calls['enums'] |= set(re.findall(r'\benum (\w+)', text))
         for m in re.finditer(r'\bfn (\w+)\s*(?:<[^>]*>)?\(', text):
             end, depth = m.end(), 1
@@ -303,7 +303,7 @@ def take_away(crate, pending):
 def make(crate, recipes, pending):
     """Writes the pending proofs as the check prints their lines: a caller's come once its callees with loops are proved."""
     were, made = take_away(crate, pending), []
-    context = calls_of_all_crates(), modules_of_names(crate)
+    context = calls_up_to(crate), modules_of_names(crate)
     log = check(crate, anew=True)
     while pending:
         found = {f: lines for f, lines in skeletons(log, crate).items() if f in pending}

@@ -3,6 +3,7 @@
 use std::fs::File;
 use std::io::{Read, Write};
 use std::process::{Child, Command, Stdio};
+use std::time::{Duration, Instant};
 
 fn program(input: Stdio) -> Child {
     Command::new(env!("CARGO_BIN_EXE_second"))
@@ -72,16 +73,17 @@ fn slow_input_is_replied_to_before_more_comes() {
     assert_eq!(finish(child), (Some(0), vec![], vec![]));
 }
 
+/// Records are sent until the program is gone: a program that another test starts at that moment has the reading end
+/// too until it runs its own code, and takes the first replies.
 #[test]
 fn a_closed_output_ends_quietly_with_exit_code_1() {
     let mut child = program(Stdio::piped());
     drop(child.stdout.take());
-    child
-        .stdin
-        .take()
-        .unwrap()
-        .write_all(&[1, 0, 1, 7])
-        .unwrap();
+    let mut input = child.stdin.take().unwrap();
+    input.write_all(&[1]).unwrap();
+    let began = Instant::now();
+    while input.write_all(&[0, 1, 7]).is_ok() && began.elapsed() < Duration::from_secs(10) {}
+    drop(input);
     assert_eq!(finish(child), (Some(1), vec![], vec![]));
 }
 

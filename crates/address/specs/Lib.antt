@@ -1,3 +1,2 @@
 pub mod Registers
 pub mod Address
-pub mod Successor

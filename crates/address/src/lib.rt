@@ -1,8 +1,7 @@
-// Registers 3 to 6 as an address: the sector that they name or that they fault, and the registers of the next address.
+// Registers 3 to 6 as an address: the sector that they name or that they fault.
 ghost use mathlib.Core.Path.{_≡_};
-ghost use Rattle.address.specs.Registers.{lbaSelected, lbaOf, cylinderOf, headOf, withLba, withCylinder, withHead};
+ghost use Rattle.address.specs.Registers.{lbaSelected, lbaOf, cylinderOf, headOf, withCylinder, withHead};
 ghost use Rattle.address.specs.Address.{lbaAddress, chsAddress, addressOf};
-ghost use Rattle.address.specs.Successor.{lbaSuccessor, chsSuccessor, successorOf};
 use geometry::Geometry;
 use geometry::Translation;
 
@@ -34,7 +33,7 @@ impl AddressRegisters {
     }
 
     // The 28 bits of an LBA, Sector Number lowest, head nibble highest.
-    fn lba(self) -> u32
+    pub fn lba(self) -> u32
         ensures { λ r. ⌜ r ≡ lbaOf self ⌝ }
     {
         (self.sector as u32)
@@ -43,28 +42,18 @@ impl AddressRegisters {
             + 16777216 * ((self.head % 16) as u32)
     }
 
-    fn cylinder(self) -> u16
+    // Cylinder Low and Cylinder High.
+    pub fn cylinder(self) -> u16
         ensures { λ r. ⌜ r ≡ cylinderOf self ⌝ }
     {
         (self.low as u16) + 256 * (self.high as u16)
     }
 
     // The head nibble.
-    fn head_number(self) -> u8
+    pub fn head_number(self) -> u8
         ensures { λ r. ⌜ r ≡ headOf self ⌝ }
     {
         self.head % 16
-    }
-
-    // The lowest 28 bits of n as LBA; the high nibble of Device/Head stays.
-    fn with_lba(mut self, n: u32) -> Self
-        ensures { λ r. ⌜ r ≡ withLba self n ⌝ }
-    {
-        self.sector = (n % 256) as u8;
-        self.low = (n / 256 % 256) as u8;
-        self.high = (n / 65536 % 256) as u8;
-        self.head = self.head / 16 * 16 + (n / 16777216 % 16) as u8;
-        self
     }
 
     // The lowest 16 bits of c as cylinder.
@@ -122,37 +111,5 @@ impl AddressRegisters {
             return self.lba_address(g.capacity());
         }
         self.chs_address(t)
-    }
-
-    fn lba_successor(self) -> Self
-        ensures { λ r. ⌜ r ≡ lbaSuccessor self ⌝ }
-    {
-        self.with_lba(self.lba() + 1)
-    }
-
-    fn chs_successor(mut self, t: Translation) -> Self
-        ensures { λ r. ⌜ r ≡ chsSuccessor t self ⌝ }
-    {
-        if self.sector < t.sectors {
-            self.sector = self.sector + 1;
-            return self;
-        }
-        let h = self.head_number() + 1;
-        let c = (self.cylinder() as u32) + 1;
-        self.sector = 1;
-        if h < t.heads {
-            return self.with_head(h);
-        }
-        self.with_head(0).with_cylinder(c)
-    }
-
-    // The registers of the next address, good or bad.
-    pub fn successor(self, t: Translation) -> Self
-        ensures { λ r. ⌜ r ≡ successorOf t self ⌝ }
-    {
-        if self.lba_selected() {
-            return self.lba_successor();
-        }
-        self.chs_successor(t)
     }
 }

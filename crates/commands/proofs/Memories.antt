@@ -3,7 +3,8 @@ use mathlib.Core.List.{List}
 use Prim.Native.Nat.{ℕ}
 use Rattle.lock.specs.declared.Purpose.{Purpose}
 use Rattle.lock.specs.declared.Purpose.the-variants.{Set, Unlock, Erase, Disable}
-use Rattle.face.specs.Resets.{dropPurpose, dropAs, droppedOf}
+use Rattle.face.specs.Face.{idleFace}
+use Rattle.resets.specs.Resets.{dropPurpose, dropAs, droppedOf}
 use Rattle.face.specs.declared.Transfer.{Transfer}
 use Rattle.face.specs.declared.Transfer.the-variants.{Idle, Reading, Writing, ReadingBuffer, WritingBuffer, TakingPassword}
 use Rattle.face.specs.declared.Face.{Face}
@@ -30,4 +31,4 @@ drop-memory f (TakingPassword b) k = drop-purpose-memory _ (b .purpose) k
 
 pub begun-memory : (f : Face) {m : List ℕ} → Fitting f m → Fitting (begunOf f) m
 unfolding begunOf droppedOf
-begun-memory f k = drop-memory f (f .hot .transfer) k
+begun-memory f k = drop-memory (idleFace f) (f .hot .transfer) k

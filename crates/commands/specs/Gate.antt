@@ -10,9 +10,11 @@ use Rattle.codes.specs.declared.Command.{Command}
 use Rattle.codes.specs.declared.Command.the-variants.{Unknown, Recalibrate, ReadSectors, WriteSectors, VerifySectors, Seek, ExecuteDiagnostic, InitializeParameters, ReadBuffer, WriteBuffer, IdentifyDevice, SecuritySetPassword, SecurityUnlock, SecurityErasePrepare, SecurityEraseUnit, SecurityFreezeLock, SecurityDisablePassword}
 use Rattle.face.specs.Face.{withHot}
 use Rattle.face.specs.Ends.{clearedOf}
-use Rattle.face.specs.Resets.{droppedOf, unpreparedFace}
+use Rattle.resets.specs.Resets.{droppedOf, unpreparedFace}
 use Rattle.face.specs.declared.Face.{Face}
-use Rattle.transfers.specs.Sectors.{abortFace, readSectorsOf, writeSectorsOf, verifySectorsOf}
+use Rattle.transfers.specs.Sectors.{abortFace}
+use Rattle.reading.specs.Sectors.{readSectorsOf, verifySectorsOf}
+use Rattle.writing.specs.Sectors.{writeSectorsOf}
 use Rattle.commands.specs.Others.{seekOf, recalibrateOf, initializeParametersOf, diagnosticOf, identifyDeviceOf, readBufferOf, writeBufferOf, takePasswordOf, erasePrepareOf, freezeLockOf}
 
 -- "a Command write first drops the transfer .. A command first clears Error and the interrupt"

@@ -132,9 +132,9 @@ fn run(face: Face, command: Command, sectors: &[u8]) -> Face
     match command {
         Command::Unknown => transfers::abort(face),
         Command::Recalibrate => recalibrate(face),
-        Command::ReadSectors => transfers::read_sectors(face, sectors),
-        Command::WriteSectors => transfers::write_sectors(face),
-        Command::VerifySectors => transfers::verify_sectors(face),
+        Command::ReadSectors => reading::read_sectors(face, sectors),
+        Command::WriteSectors => writing::write_sectors(face),
+        Command::VerifySectors => reading::verify_sectors(face),
         Command::Seek => seek(face),
         Command::ExecuteDiagnostic => diagnostic(face),
         Command::InitializeParameters => initialize_parameters(face),
@@ -154,7 +154,7 @@ fn run(face: Face, command: Command, sectors: &[u8]) -> Face
 fn begun(face: Face) -> Face
     ensures { λ r. ⌜ r ≡ begunOf face ⌝ }
 {
-    let dropped = face.drop_transfer();
+    let dropped = resets::drop_transfer(face);
     let hot = dropped.hot;
     dropped.with_hot(hot.cleared())
 }

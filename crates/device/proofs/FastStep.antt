@@ -1,23 +1,18 @@
--- The fast path of a device alone on its cable is its action, DEV set or not; and where it settles nothing it leaves the buffer.
+-- The fast path of a device alone on its cable is its action, DEV set or not.
 use mathlib.Core.Bool.{Bool, true, false}
 use mathlib.Core.Path.{_≡_, refl, sym, ap, _∙_}
 use mathlib.Core.List.{List}
 use Prim.Native.Nat.{ℕ}
-use lib.Dec.{ltb}
-use Rattle.base.specs.Choice.{pick}
-use Rattle.base.proofs.Tests.{zero≢one}
-use Rattle.face.specs.Quick.{quickWriteOf, quickWriteBuffer, quickOf, quickBuffer}
-use Rattle.face.specs.declared.Hot.{Hot}
 use Rattle.face.specs.declared.Seen.{Seen}
-use Rattle.face.specs.declared.Transfer.{Transfer}
-use Rattle.face.specs.declared.Transfer.the-variants.{Idle, Reading, Writing, ReadingBuffer, WritingBuffer, TakingPassword}
 use Rattle.face.specs.declared.Action.{Action}
-use Rattle.face.specs.declared.Action.the-variants.{ReadRegister, WriteRegister, ReadWord, WriteWord, HardwareReset, PowerOn, Line}
 use Rattle.face.specs.declared.Quick.{Quick}
 use Rattle.face.specs.declared.Quick.the-variants.{Settles, Slow}
+use Rattle.password.proofs.FastWord.{quickThen}
 use Rattle.disk.specs.Actions.{actOf}
-use Rattle.disk.proofs.FastPath.{quickThen, quick-act}
-use Rattle.device.specs.Alone.{Step, ignoredOf, stepAs, aloneOf, quickAlone, quickAloneBuffer, quickOutcome}
+use Rattle.disk.proofs.FastPath.{quick-act}
+use Rattle.device.specs.Alone.{Step, stepAs, aloneOf, quickOutcome}
+use Rattle.fastpath.specs.Dev.{ignoredOf, quickAlone, quickAloneBuffer}
+use Rattle.fastpath.specs.Quick.{quickOf, quickBuffer}
 use Rattle.device.specs.declared.Device.{Device}
 
 -- what the fast path settled, put in place; else what the long way gives
@@ -49,36 +44,3 @@ quick-settles d m a b s e h =
     quick-step d m a
     ∙ ap (λ (q : Quick). quickStep d m (quickAloneBuffer (d .face .hot) (d .face .buffer) a) q (aloneOf d m a)) e
     ∙ ap (λ (c : List ℕ). record { outcome = quickOutcome d c s; sectors = m }) (sym h)
-
--- a choice that came out Slow did not settle
-slow-false : (b : Bool) (s : Seen) → pick b (Settles s) Slow ≡ Slow → b ≡ false
-slow-false true s e = absurd (zero≢one (cc))
-slow-false false s e = refl
-
-slow-write : (h : Hot) (b : List ℕ) (w : ℕ) (t : Transfer) → quickWriteOf h t ≡ Slow → quickWriteBuffer b w t ≡ b
-unfolding quickWriteOf quickWriteBuffer
-slow-write h b w Idle e = refl
-slow-write h b w (Reading r) e = refl
-slow-write h b w (Writing r) e = rw (slow-false (ltb (r .word) 255) _ e)
-slow-write h b w (ReadingBuffer n) e = refl
-slow-write h b w (WritingBuffer n) e = rw (slow-false (ltb n 255) _ e)
-slow-write h b w (TakingPassword p) e = rw (slow-false (ltb (p .word) 255) _ e)
-
-slow-core : (h : Hot) (b : List ℕ) (a : Action) → quickOf h b a ≡ Slow → quickBuffer h b a ≡ b
-unfolding quickOf quickBuffer
-slow-core h b (ReadRegister n) e = refl
-slow-core h b (WriteRegister n v) e = refl
-slow-core h b ReadWord e = refl
-slow-core h b (WriteWord w) e = slow-write h b w (h .transfer) e
-slow-core h b HardwareReset e = refl
-slow-core h b PowerOn e = refl
-slow-core h b Line e = refl
-
--- where the fast path settles nothing, it leaves the buffer
-pub quick-slow : (h : Hot) (b : List ℕ) (a : Action) → quickAlone h b a ≡ Slow → quickAloneBuffer h b a ≡ b
-unfolding quickAlone quickAloneBuffer
-quick-slow h b a e = go (ignoredOf h a) e
-  where
-    go : (i : Bool) → pick i Slow (quickOf h b a) ≡ Slow → pick i b (quickBuffer h b a) ≡ b
-    go true k = refl
-    go false k = slow-core h b a k

@@ -7,8 +7,8 @@ use lib.ListN.{length}
 use Rattle.base.proofs.Tests.{both-true}
 use Rattle.settled.proofs.Clauses.{settled-clauses}
 use Rattle.transfers.specs.Sectors.{Memory}
-use Rattle.disk.specs.Shape.{diskFits}
-use Rattle.disk.proofs.Clauses.{shape-clauses}
+use Rattle.shape.specs.Shape.{diskFits}
+use Rattle.shape.proofs.Clauses.{shape-clauses}
 use Rattle.device.specs.Host.{aloneFits, shapedOf, memoryLength}
 use Rattle.device.specs.declared.Device.{Device}
 

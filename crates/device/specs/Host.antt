@@ -11,8 +11,9 @@ use Rattle.face.specs.Reads.{isIdle}
 use Rattle.face.specs.declared.Hot.{Hot}
 use Rattle.face.specs.declared.Answer.the-variants.{OutOfShape, WrongLength}
 use Rattle.face.specs.declared.Action.{Action}
-use Rattle.disk.specs.Shape.{diskFits}
-use Rattle.device.specs.Alone.{Step, shown, devSet, aloneOf}
+use Rattle.shape.specs.Shape.{diskFits}
+use Rattle.device.specs.Alone.{Step, shown, aloneOf}
+use Rattle.fastpath.specs.Dev.{devSet}
 use Rattle.device.specs.declared.Device.{Device}
 
 -- answer 2: a transfer "with DEV set .. DEV set while reset is held"

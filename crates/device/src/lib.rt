@@ -1,27 +1,20 @@
 // The device: one disk alone on its cable. Setup, the host's actions with every refusal, and the rules for DEV.
 ghost use mathlib.Core.Path.{_≡_};
 ghost use Rattle.transfers.specs.Sectors.{Memory};
-ghost use Rattle.device.specs.Setup.{zeroHot, zeroIdentity, zeroSettled, zeroFace, zeroDevice, freshOf, setupOf};
-ghost use Rattle.device.specs.Alone.{devSet, unansweredOf, ignoredOf, quickAlone, quickAloneBuffer, valueOf, outcome, quickOutcome, actedOf, aloneOf};
+ghost use Rattle.device.specs.Setup.{zeroDevice, freshOf, setupOf};
+ghost use Rattle.device.specs.Alone.{outcome, quickOutcome, toldOf, actedOf, aloneOf};
 ghost use Rattle.device.specs.Host.{aloneFits, shapedOf, stepOf};
-use address::AddressRegisters;
 use face::Action;
 use face::Answer;
 use face::Face;
 use face::Hot;
 use face::Quick;
-use face::Registers;
 use face::Seen;
-use face::Signals;
-use face::Transfer;
 use geometry::Checked;
 use geometry::Geometry;
-use geometry::Translation;
-use lock::Lock;
 use lock::Secrets;
-use lock::Security;
+use password::Acted;
 use settled::Identity;
-use settled::Settled;
 
 pub struct Device {
     pub face: Face,
@@ -35,107 +28,12 @@ pub struct Outcome {
     pub device: Device,
 }
 
-// Only an action that is done has a value.
-pub fn value_of(answer: Answer, value: u16) -> u16
-    ensures { λ r. ⌜ r ≡ valueOf answer value ⌝ }
-{
-    match answer {
-        Answer::Done => value,
-        Answer::NoRegister => 0,
-        Answer::OutOfShape => 0,
-        Answer::WrongLength => 0,
-        Answer::NoTransfer => 0,
-        Answer::SetupRefused => 0,
-    }
-}
-
-fn zero_hot() -> Hot
-    ensures { λ r. ⌜ r ≡ zeroHot ⌝ }
-{
-    let at = AddressRegisters {
-        sector: 0,
-        low: 0,
-        high: 0,
-        head: 0,
-    };
-    let regs = Registers {
-        error: 0,
-        features: 0,
-        count: 0,
-        at,
-    };
-    let signals = Signals {
-        held: false,
-        masked: false,
-        raised: false,
-        failed: false,
-    };
-    Hot {
-        regs,
-        signals,
-        transfer: Transfer::Idle,
-    }
-}
-
-fn zero_identity() -> Identity
-    ensures { λ r. ⌜ r ≡ zeroIdentity ⌝ }
-{
-    let serial = [0u8; 20];
-    let firmware = [0u8; 8];
-    let model = [0u8; 40];
-    Identity {
-        serial,
-        firmware,
-        model,
-    }
-}
-
-fn zero_settled() -> Settled
-    ensures { λ r. ⌜ r ≡ zeroSettled ⌝ }
-{
-    let geometry = Geometry {
-        cylinders: 0,
-        heads: 0,
-        sectors: 0,
-    };
-    let translation = geometry.factory();
-    let identity = zero_identity();
-    let security = Security {
-        lock: Lock::Open,
-        enabled: false,
-        maximum: false,
-        attempts: 0,
-        prepared: false,
-    };
-    Settled {
-        geometry,
-        translation,
-        identity,
-        security,
-    }
-}
-
-fn zero_face() -> Face
-    ensures { λ r. ⌜ r ≡ zeroFace ⌝ }
-{
-    let hot = zero_hot();
-    let settled = zero_settled();
-    let buffer = block::zeros();
-    Face {
-        hot,
-        settled,
-        buffer,
-    }
-}
-
 // The record that a refused setup hands back: every number 0, no mark set.
 fn zero_device() -> Device
     ensures { λ r. ⌜ r ≡ zeroDevice ⌝ }
 {
-    let face = zero_face();
-    let user = lock::no_password();
-    let master = lock::no_password();
-    let secrets = Secrets { user, master };
+    let face = face::zero_face();
+    let secrets = Secrets::fresh(lock::no_password());
     Device { face, secrets }
 }
 
@@ -143,77 +41,17 @@ fn zero_device() -> Device
 fn fresh(geometry: Geometry, identity: Identity, master: [u8; 32]) -> Device
     ensures { λ r. ⌜ r ≡ freshOf geometry identity master ⌝ }
 {
-    let zero = zero_settled();
-    let security = zero.security;
-    let translation = geometry.factory();
-    let settled = Settled {
-        geometry,
-        translation,
-        identity,
-        security,
-    };
-    let face = zero_face().with_settled(settled).power_on();
-    let user = lock::no_password();
-    let secrets = Secrets { user, master };
+    let settled = settled::fresh(geometry, identity);
+    let face = resets::powered_on(face::zero_face().with_settled(settled));
+    let secrets = Secrets::fresh(master);
     Device { face, secrets }
-}
-
-// DEV: Device/Head bit 4.
-pub fn dev_set(hot: Hot) -> bool
-    ensures { λ r. ⌜ r ≡ devSet hot ⌝ }
-{
-    hot.regs.at.head / 16 % 2 == 1
-}
-
-// What a device alone on its cable leaves to device 1: reads of 7 and 8, and commands but 90h.
-fn unanswered(action: Action) -> bool
-    ensures { λ r. ⌜ r ≡ unansweredOf action ⌝ }
-{
-    match action {
-        Action::ReadRegister(n) => {
-            if n == 7 {
-                return true;
-            }
-            n == 8
-        }
-        Action::WriteRegister(n, v) => {
-            if n == 7 {
-                return v != 0x90;
-            }
-            false
-        }
-        Action::ReadWord => false,
-        Action::WriteWord(w) => false,
-        Action::HardwareReset => false,
-        Action::PowerOn => false,
-        Action::Line => false,
-    }
-}
-
-fn ignored(hot: Hot, action: Action) -> bool
-    ensures { λ r. ⌜ r ≡ ignoredOf hot action ⌝ }
-{
-    if unanswered(action) {
-        return dev_set(hot);
-    }
-    false
-}
-
-// The fast path: an action that the hot part and the buffer settle.
-pub fn quick(hot: Hot, buffer: &mut [u8; 512], action: Action) -> Quick
-    ensures { λ r. ⌜ (r ≡ quickAlone hot (now (buffer .entry)) action) × (now (buffer .exit) ≡ quickAloneBuffer hot (now (buffer .entry)) action) ⌝ }
-{
-    if ignored(hot, action) {
-        return Quick::Slow;
-    }
-    hot.quick(buffer, action)
 }
 
 // The clauses of answer 2 on DEV.
 fn alone_fits(hot: Hot) -> bool
     ensures { λ r. ⌜ r ≡ aloneFits hot ⌝ }
 {
-    if dev_set(hot) {
+    if fastpath::dev_set(hot) {
         if hot.signals.held {
             return false;
         }
@@ -222,13 +60,24 @@ fn alone_fits(hot: Hot) -> bool
     true
 }
 
+// What a disk's own action left.
+fn told(left: Acted) -> Outcome
+    ensures { λ r. ⌜ r ≡ toldOf left ⌝ }
+{
+    let face = left.face;
+    let secrets = left.secrets;
+    let answer = left.answer;
+    let device = Device { face, secrets };
+    device.shows(answer, left.value)
+}
+
 impl Device {
     fn shows(self, answer: Answer, value: u16) -> Outcome
         ensures { λ r. ⌜ r ≡ outcome self answer value ⌝ }
     {
         Outcome {
             number: answer.number(),
-            value: value_of(answer, value),
+            value: face::value_of(answer, value),
             device: self,
         }
     }
@@ -258,7 +107,7 @@ impl Device {
     {
         let face = self.face;
         let hot = face.hot;
-        if disk::fits(face) {
+        if shape::fits(face) {
             return alone_fits(hot);
         }
         false
@@ -270,11 +119,7 @@ impl Device {
         ensures { λ r. ⌜ (r ≡ actedOf self (now (sectors .entry)) action .outcome) × (now (sectors .exit) ≡ actedOf self (now (sectors .entry)) action .sectors) ⌝ }
     {
         let left = disk::act(self.face, self.secrets, action, sectors);
-        let face = left.face;
-        let secrets = left.secrets;
-        let answer = left.answer;
-        let device = Device { face, secrets };
-        device.shows(answer, left.value)
+        told(left)
     }
 
     // An action over the disk's own memory, the long way.
@@ -284,7 +129,7 @@ impl Device {
     {
         let face = self.face;
         let hot = face.hot;
-        if ignored(hot, action) {
+        if fastpath::ignored(hot, action) {
             return self.shows(Answer::Done, 0);
         }
         self.acted(action, sectors)
@@ -309,7 +154,7 @@ impl Device {
         let face = self.face;
         let hot = face.hot;
         let mut buffer = face.buffer;
-        let q = quick(hot, &mut buffer, action);
+        let q = fastpath::quick(hot, &mut buffer, action);
         match q {
             Quick::Settles(seen) => self.settles(buffer, seen),
             Quick::Slow => self.act(action, sectors),

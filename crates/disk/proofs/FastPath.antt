@@ -6,25 +6,19 @@ use Prim.Native.Nat.{ℕ}
 use lib.Dec.{ltb}
 use Rattle.base.specs.Choice.{within}
 use Rattle.lock.specs.declared.Secrets.{Secrets}
-use Rattle.face.specs.Face.{withBuffer}
-use Rattle.face.specs.Quick.{quickReadOf, quickWriteOf, quickWriteBuffer, quickPutOf, quickOf, quickBuffer}
+use Rattle.fastpath.specs.Quick.{quickReadOf, quickWriteOf, quickWriteBuffer, quickPutOf, quickOf, quickBuffer}
 use Rattle.face.specs.declared.Face.{Face}
 use Rattle.face.specs.declared.Run.{Run}
-use Rattle.face.specs.declared.PasswordBlock.{PasswordBlock}
 use Rattle.face.specs.declared.Transfer.{Transfer}
 use Rattle.face.specs.declared.Transfer.the-variants.{Idle, Reading, Writing, ReadingBuffer, WritingBuffer, TakingPassword}
 use Rattle.face.specs.declared.Action.{Action}
 use Rattle.face.specs.declared.Action.the-variants.{ReadRegister, WriteRegister, ReadWord, WriteWord, HardwareReset, PowerOn, Line}
-use Rattle.face.specs.declared.Quick.{Quick}
-use Rattle.face.specs.declared.Quick.the-variants.{Settles, Slow}
-use Rattle.transfers.specs.Words.{readWordAs, readWordOf, readRunOf, readBufferWord, writeRunOf, writeRunSectors, writeBufferWord}
-use Rattle.disk.specs.Passwords.{passwordWord, passwordWordSectors}
-use Rattle.disk.specs.Actions.{Effect, effect, seenActed, toldActed, writeRegisterOf, writeWordAs, writeWordOf, actOf}
-
--- what the fast path settled, put in place; else what the long way gives
-abbrev pub quickThen : Face → Secrets → List ℕ → List ℕ → Quick → Effect → Effect
-quickThen f x m b (Settles s) slow = effect (seenActed (withBuffer f b) x s) m
-quickThen f x m b Slow slow = slow
+use Rattle.transfers.specs.Words.{readBufferWord, writeBufferWord}
+use Rattle.reading.specs.Words.{readWordAs, readWordOf, readRunOf}
+use Rattle.writing.specs.Words.{writeRunOf, writeRunSectors}
+use Rattle.password.specs.Effects.{effect}
+use Rattle.password.proofs.FastWord.{quickThen, quick-password}
+use Rattle.disk.specs.Actions.{toldActed, writeRegisterOf, writeWordAs, writeWordOf, actOf}
 
 -- a data word read by the fast path where it settles it
 abbrev ReadQuickly : Face → Secrets → List ℕ → Transfer → Type 0
@@ -76,14 +70,6 @@ unfolding quickWriteOf quickWriteBuffer writeBufferWord
 quick-writing-buffer f x m w n = go (ltb n 255) refl
   where
     go : (b : Bool) → ltb n 255 ≡ b → WrittenQuickly f x m w (WritingBuffer n)
-    go true e = simp e
-    go false e = simp e
-
-quick-password : (f : Face) (x : Secrets) (m : List ℕ) (w : ℕ) (p : PasswordBlock) → WrittenQuickly f x m w (TakingPassword p)
-unfolding quickWriteOf quickWriteBuffer passwordWord passwordWordSectors
-quick-password f x m w p = go (ltb (p .word) 255) refl
-  where
-    go : (b : Bool) → ltb (p .word) 255 ≡ b → WrittenQuickly f x m w (TakingPassword p)
     go true e = simp e
     go false e = simp e
 

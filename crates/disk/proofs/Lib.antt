@@ -1,2 +1,1 @@
 pub mod FastPath
-pub mod Clauses

@@ -7,32 +7,22 @@ use Rattle.lock.specs.declared.Secrets.{Secrets}
 use Rattle.face.specs.Face.{withHot}
 use Rattle.face.specs.Reads.{readRegister, lineOf}
 use Rattle.face.specs.Writes.{putRegister}
-use Rattle.face.specs.Resets.{poweredOnFace, controlOf}
+use Rattle.resets.specs.Resets.{poweredOnFace}
+use Rattle.resets.specs.Control.{controlOf}
 use Rattle.face.specs.declared.Transfer.{Transfer}
 use Rattle.face.specs.declared.Transfer.the-variants.{Idle, Reading, Writing, ReadingBuffer, WritingBuffer, TakingPassword}
-use Rattle.face.specs.declared.Seen.{Seen}
 use Rattle.face.specs.declared.Answer.the-variants.{Done, NoRegister, NoTransfer}
 use Rattle.face.specs.declared.Action.{Action}
 use Rattle.face.specs.declared.Action.the-variants.{ReadRegister, WriteRegister, ReadWord, WriteWord, HardwareReset, PowerOn, Line}
 use Rattle.face.specs.declared.Face.{Face}
-use Rattle.transfers.specs.Words.{told, readWordOf, writeRunOf, writeRunSectors, writeBufferWord}
+use Rattle.transfers.specs.Words.{told, writeBufferWord}
+use Rattle.reading.specs.Words.{readWordOf}
+use Rattle.writing.specs.Words.{writeRunOf, writeRunSectors}
 use Rattle.transfers.specs.declared.Told.{Told}
 use Rattle.commands.specs.Gate.{commandOf}
-use Rattle.disk.specs.Passwords.{acted, passwordWord, passwordWordSectors}
-use Rattle.disk.specs.declared.Acted.{Acted}
-
--- what an action leaves: the disk, what it shows, and every sector
-pub record Effect : Type 0 where
-  pub acted : Acted
-  pub sectors : List ℕ
-
--- an action that leaves this
-abbrev pub effect : Acted → List ℕ → Effect
-effect a m = record { acted = a; sectors = m }
-
--- an action on the hot part
-abbrev pub seenActed : Face → Secrets → Seen → Acted
-seenActed f x s = acted (withHot f (s .hot)) x (s .answer) (s .value)
+use Rattle.password.specs.Effects.{acted, Effect, effect, seenActed}
+use Rattle.password.specs.Passwords.{passwordWord, passwordWordSectors}
+use Rattle.password.specs.declared.Acted.{Acted}
 
 -- an action on the face
 abbrev pub toldActed : Secrets → Told → Acted

@@ -1,11 +1,13 @@
 -- The parts of the face, each with one part changed.
-use Prim.Native.Nat.{ℕ}
+use Prim.Native.Nat.{ℕ, _+_}
 use mathlib.Core.Bool.{Bool, false}
 use mathlib.Core.List.{List}
 use Rattle.settled.specs.declared.Settled.{Settled}
 use Rattle.face.specs.Registers.{startRegisters}
 use Rattle.face.specs.declared.Registers.{Registers}
 use Rattle.face.specs.declared.Signals.{Signals}
+use Rattle.face.specs.declared.Run.{Run}
+use Rattle.face.specs.declared.PasswordBlock.{PasswordBlock}
 use Rattle.face.specs.declared.Transfer.{Transfer}
 use Rattle.face.specs.declared.Transfer.the-variants.{Idle}
 use Rattle.face.specs.declared.Hot.{Hot}
@@ -51,6 +53,10 @@ withTransfer h t = record { regs = h .regs; signals = h .signals; transfer = t }
 abbrev pub withHot : Face → Hot → Face
 withHot f h = record { hot = h; settled = f .settled; buffer = f .buffer }
 
+-- no transfer
+abbrev pub idleFace : Face → Face
+idleFace f = withHot f (withTransfer (f .hot) Idle)
+
 -- with another settled part
 abbrev pub withSettled : Face → Settled → Face
 withSettled f s = record { hot = f .hot; settled = s; buffer = f .buffer }
@@ -58,3 +64,11 @@ withSettled f s = record { hot = f .hot; settled = s; buffer = f .buffer }
 -- with another buffer
 abbrev pub withBuffer : Face → List ℕ → Face
 withBuffer f b = record { hot = f .hot; settled = f .settled; buffer = b }
+
+-- the next word of a sector
+abbrev pub nextWord : Run → Run
+nextWord r = record { at = r .at; after = r .after; word = r .word + 1 }
+
+-- the next word of a password block
+abbrev pub nextPasswordWord : PasswordBlock → PasswordBlock
+nextPasswordWord b = record { purpose = b .purpose; word = b .word + 1 }

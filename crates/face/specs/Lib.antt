@@ -3,5 +3,4 @@ pub mod Face
 pub mod Reads
 pub mod Writes
 pub mod Ends
-pub mod Resets
-pub mod Quick
+pub mod Setup

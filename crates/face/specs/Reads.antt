@@ -20,6 +20,15 @@ numberOf WrongLength = 3
 numberOf NoTransfer = 4
 numberOf SetupRefused = 6
 
+-- the table of answers, column "Returns": "the value" where it is done, else 0
+abbrev pub valueOf : Answer → ℕ → ℕ
+valueOf Done v = v
+valueOf NoRegister v = 0
+valueOf OutOfShape v = 0
+valueOf WrongLength v = 0
+valueOf NoTransfer v = 0
+valueOf SetupRefused v = 0
+
 -- no transfer is open
 abbrev pub isIdle : Transfer → Bool
 isIdle Idle = true

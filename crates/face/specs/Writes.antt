@@ -1,11 +1,11 @@
--- What writes to registers 1 to 6 and to Device Control change in the register file (document 01, "Registers").
-use Prim.Native.Nat.{ℕ, _/_, _%_}
+-- What writes to registers 1 to 6 change in the register file (document 01, "Registers").
+use Prim.Native.Nat.{ℕ}
 use mathlib.Core.Bool.{Bool, true, false}
 use lib.Dec.{eqb}
 use Rattle.base.specs.Choice.{pick}
 use Rattle.address.specs.Registers.{withSector}
 use Rattle.face.specs.Registers.{withFeatures, withCount, withAt, withLow, withHigh, withDeviceHead}
-use Rattle.face.specs.Face.{startHot, withHeld, withMasked, withRegs, withSignals}
+use Rattle.face.specs.Face.{withRegs}
 use Rattle.face.specs.Reads.{isIdle}
 use Rattle.face.specs.declared.Hot.{Hot}
 
@@ -26,19 +26,3 @@ storeRegister h n v =
 -- a write to one of registers 1 to 6
 unfoldable pub putRegister : Hot → ℕ → ℕ → Hot
 putRegister h n v = pick (busyOf h) h (storeRegister h n v)
-
--- "SRST (Device Control bit 2)"
-unfoldable pub srstOf : ℕ → Bool
-srstOf v = eqb (v / 4 % 2) 1
-
--- "nIEN is bit 1"
-unfoldable pub nienOf : ℕ → Bool
-nienOf v = eqb (v / 2 % 2) 1
-
--- registers, signals and transfer once SRST is set: "drops the transfer, restores start values .. clears interrupt"
-abbrev pub heldHot : Bool → Hot
-heldHot masked = withSignals startHot (withMasked (withHeld (startHot .signals) true) masked)
-
--- a Device Control write with SRST clear
-abbrev pub releasedOf : Hot → Bool → Hot
-releasedOf h masked = withSignals h (withMasked (withHeld (h .signals) false) masked)

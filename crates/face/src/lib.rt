@@ -2,12 +2,11 @@
 ghost use mathlib.Core.Path.{_≡_};
 ghost use Prim.Native.Nat.{_<_};
 ghost use Rattle.face.specs.Registers.{startRegisters};
-ghost use Rattle.face.specs.Face.{noSignals, startHot, withRegs, withTransfer, withHot, withSettled, withBuffer};
-ghost use Rattle.face.specs.Reads.{numberOf, isIdle, statusOf, seen, quietOf, readRegister, lineOf};
-ghost use Rattle.face.specs.Writes.{busyOf, storeRegister, putRegister, srstOf, nienOf, heldHot, releasedOf};
+ghost use Rattle.face.specs.Face.{noSignals, startHot, withRegs, withTransfer, withHot, withSettled, withBuffer, nextWord, nextPasswordWord};
+ghost use Rattle.face.specs.Reads.{numberOf, valueOf, isIdle, statusOf, seen, quietOf, readRegister, lineOf};
+ghost use Rattle.face.specs.Writes.{busyOf, storeRegister, putRegister};
 ghost use Rattle.face.specs.Ends.{clearedOf, raisedOf, finishOf, failOf, endedAt};
-ghost use Rattle.face.specs.Resets.{dropPurpose, droppedOf, softResetOf, poweredOnFace, controlOf};
-ghost use Rattle.face.specs.Quick.{nextWord, nextPasswordWord, quickReadOf, quickWriteOf, quickWriteBuffer, quickPutOf, quickOf, quickBuffer};
+ghost use Rattle.face.specs.Setup.{zeroHot, zeroFace};
 use address::AddressRegisters;
 use lock::Purpose;
 use settled::Settled;
@@ -114,6 +113,20 @@ impl Answer {
     }
 }
 
+// Only an action that is done has a value.
+pub fn value_of(answer: Answer, value: u16) -> u16
+    ensures { λ r. ⌜ r ≡ valueOf answer value ⌝ }
+{
+    match answer {
+        Answer::Done => value,
+        Answer::NoRegister => 0,
+        Answer::OutOfShape => 0,
+        Answer::WrongLength => 0,
+        Answer::NoTransfer => 0,
+        Answer::SetupRefused => 0,
+    }
+}
+
 fn start_registers() -> Registers
     ensures { λ r. ⌜ r ≡ startRegisters ⌝ }
 {
@@ -143,7 +156,8 @@ fn no_signals() -> Signals
 }
 
 impl Hot {
-    fn start() -> Hot
+    // Start values, nothing signalled, no transfer.
+    pub fn start() -> Hot
         ensures { λ r. ⌜ r ≡ startHot ⌝ }
     {
         let regs = start_registers();
@@ -204,7 +218,7 @@ impl Hot {
         0x58
     }
 
-    fn shows(self, answer: Answer, value: u16) -> Seen
+    pub fn shows(self, answer: Answer, value: u16) -> Seen
         ensures { λ r. ⌜ r ≡ seen self answer value ⌝ }
     {
         Seen {
@@ -305,25 +319,6 @@ impl Hot {
         self.store_register(n, v)
     }
 
-    // Device Control with SRST clear.
-    fn released(mut self, masked: bool) -> Hot
-        ensures { λ r. ⌜ r ≡ releasedOf self masked ⌝ }
-    {
-        self.signals.held = false;
-        self.signals.masked = masked;
-        self
-    }
-
-    // Registers and signals while SRST is held.
-    fn held(masked: bool) -> Hot
-        ensures { λ r. ⌜ r ≡ heldHot masked ⌝ }
-    {
-        let mut hot = Hot::start();
-        hot.signals.held = true;
-        hot.signals.masked = masked;
-        hot
-    }
-
     // A command starts.
     pub fn cleared(mut self) -> Hot
         ensures { λ r. ⌜ r ≡ clearedOf self ⌝ }
@@ -396,95 +391,6 @@ impl PasswordBlock {
     }
 }
 
-impl Hot {
-    fn quick_read(self, buffer: &[u8; 512]) -> Quick
-        ensures { λ r. ⌜ r ≡ quickReadOf self (now (buffer .entry)) (self .transfer) ⌝ }
-    {
-        let t = self.transfer;
-        match t {
-            Transfer::Idle => Quick::Slow,
-            Transfer::Reading(r) => {
-                if r.word < 255 {
-                    let v = block::word_at(buffer, r.word);
-                    let h = self.with_transfer(Transfer::Reading(r.next_word()));
-                    return Quick::Settles(h.shows(Answer::Done, v));
-                }
-                Quick::Slow
-            }
-            Transfer::Writing(r) => Quick::Slow,
-            Transfer::ReadingBuffer(n) => {
-                if n < 255 {
-                    let v = block::word_at(buffer, n);
-                    let h = self.with_transfer(Transfer::ReadingBuffer(n + 1));
-                    return Quick::Settles(h.shows(Answer::Done, v));
-                }
-                Quick::Slow
-            }
-            Transfer::WritingBuffer(n) => Quick::Slow,
-            Transfer::TakingPassword(b) => Quick::Slow,
-        }
-    }
-
-    fn quick_write(self, buffer: &mut [u8; 512], w: u16) -> Quick
-        ensures { λ r. ⌜ (r ≡ quickWriteOf self (self .transfer)) × (now (buffer .exit) ≡ quickWriteBuffer (now (buffer .entry)) w (self .transfer)) ⌝ }
-    {
-        let t = self.transfer;
-        match t {
-            Transfer::Idle => Quick::Slow,
-            Transfer::Reading(r) => Quick::Slow,
-            Transfer::Writing(r) => {
-                if r.word < 255 {
-                    block::put_word(buffer, r.word, w);
-                    let h = self.with_transfer(Transfer::Writing(r.next_word()));
-                    return Quick::Settles(h.shows(Answer::Done, 0));
-                }
-                Quick::Slow
-            }
-            Transfer::ReadingBuffer(n) => Quick::Slow,
-            Transfer::WritingBuffer(n) => {
-                if n < 255 {
-                    block::put_word(buffer, n, w);
-                    let h = self.with_transfer(Transfer::WritingBuffer(n + 1));
-                    return Quick::Settles(h.shows(Answer::Done, 0));
-                }
-                Quick::Slow
-            }
-            Transfer::TakingPassword(b) => {
-                if b.word < 255 {
-                    block::put_word(buffer, b.word, w);
-                    let h = self.with_transfer(Transfer::TakingPassword(b.next_word()));
-                    return Quick::Settles(h.shows(Answer::Done, 0));
-                }
-                Quick::Slow
-            }
-        }
-    }
-
-    fn quick_put(self, n: u8, v: u8) -> Quick
-        ensures { λ r. ⌜ r ≡ quickPutOf self n v ⌝ }
-    {
-        if base::within(1, 6, n as u16) {
-            return Quick::Settles(self.put_register(n, v).shows(Answer::Done, 0));
-        }
-        Quick::Slow
-    }
-
-    // The fast path: an action that the hot part and the buffer settle, but for DEV.
-    pub fn quick(self, buffer: &mut [u8; 512], action: Action) -> Quick
-        ensures { λ r. ⌜ (r ≡ quickOf self (now (buffer .entry)) action) × (now (buffer .exit) ≡ quickBuffer self (now (buffer .entry)) action) ⌝ }
-    {
-        match action {
-            Action::ReadRegister(n) => Quick::Settles(self.read_register(n)),
-            Action::WriteRegister(n, v) => self.quick_put(n, v),
-            Action::ReadWord => self.quick_read(buffer),
-            Action::WriteWord(w) => self.quick_write(buffer, w),
-            Action::HardwareReset => Quick::Slow,
-            Action::PowerOn => Quick::Slow,
-            Action::Line => Quick::Settles(self.shows(Answer::Done, self.line())),
-        }
-    }
-}
-
 impl Face {
     pub fn with_hot(mut self, hot: Hot) -> Face
         ensures { λ r. ⌜ r ≡ withHot self hot ⌝ }
@@ -506,87 +412,42 @@ impl Face {
         self.buffer = buffer;
         self
     }
+}
 
-    // What the drop of a password block clears besides.
-    fn drop_purpose(self, purpose: Purpose) -> Face
-        ensures { λ r. ⌜ r ≡ dropPurpose self purpose ⌝ }
-    {
-        match purpose {
-            Purpose::Set => self,
-            Purpose::Unlock => self,
-            Purpose::Erase => {
-                let settled = self.settled;
-                let security = settled.security;
-                self.with_settled(settled.with_security(security.unprepare()))
-            }
-            Purpose::Disable => self,
-        }
-    }
-
-    // A Command write drops the transfer.
-    pub fn drop_transfer(self) -> Face
-        ensures { λ r. ⌜ r ≡ droppedOf self ⌝ }
-    {
-        let hot = self.hot;
-        let t = hot.transfer;
-        match t {
-            Transfer::Idle => self,
-            Transfer::Reading(r) => self.with_hot(hot.with_transfer(Transfer::Idle)),
-            Transfer::Writing(r) => self.with_hot(hot.with_transfer(Transfer::Idle)),
-            Transfer::ReadingBuffer(n) => self.with_hot(hot.with_transfer(Transfer::Idle)),
-            Transfer::WritingBuffer(n) => self.with_hot(hot.with_transfer(Transfer::Idle)),
-            Transfer::TakingPassword(b) => {
-                let purpose = b.purpose;
-                self.with_hot(hot.with_transfer(Transfer::Idle))
-                    .with_buffer(block::zeros())
-                    .drop_purpose(purpose)
-            }
-        }
-    }
-
-    // Setting SRST.
-    fn soft_reset(self, masked: bool) -> Face
-        ensures { λ r. ⌜ r ≡ softResetOf self masked ⌝ }
-    {
-        let settled = self.settled;
-        self.with_hot(Hot::held(masked))
-            .with_settled(settled.reset())
-            .with_buffer(block::zeros())
-    }
-
-    // Power-on and hardware reset.
-    pub fn power_on(self) -> Face
-        ensures { λ r. ⌜ r ≡ poweredOnFace self ⌝ }
-    {
-        let settled = self.settled;
-        self.with_hot(Hot::start())
-            .with_settled(settled.power_on())
-            .with_buffer(block::zeros())
-    }
-
-    // A write to Device Control.
-    pub fn control(self, v: u8) -> Face
-        ensures { λ r. ⌜ r ≡ controlOf self v ⌝ }
-    {
-        let hot = self.hot;
-        let masked = nien(v);
-        if srst(v) {
-            return self.soft_reset(masked);
-        }
-        self.with_hot(hot.released(masked))
+// Registers, signals and transfer of a record all zero.
+fn zero_hot() -> Hot
+    ensures { λ r. ⌜ r ≡ zeroHot ⌝ }
+{
+    let at = AddressRegisters {
+        sector: 0,
+        low: 0,
+        high: 0,
+        head: 0,
+    };
+    let regs = Registers {
+        error: 0,
+        features: 0,
+        count: 0,
+        at,
+    };
+    let signals = no_signals();
+    Hot {
+        regs,
+        signals,
+        transfer: Transfer::Idle,
     }
 }
 
-// Device Control bit 2.
-fn srst(v: u8) -> bool
-    ensures { λ r. ⌜ r ≡ srstOf v ⌝ }
+// The face of a record all zero.
+pub fn zero_face() -> Face
+    ensures { λ r. ⌜ r ≡ zeroFace ⌝ }
 {
-    v / 4 % 2 == 1
-}
-
-// Device Control bit 1.
-fn nien(v: u8) -> bool
-    ensures { λ r. ⌜ r ≡ nienOf v ⌝ }
-{
-    v / 2 % 2 == 1
+    let hot = zero_hot();
+    let settled = settled::zero_settled();
+    let buffer = block::zeros();
+    Face {
+        hot,
+        settled,
+        buffer,
+    }
 }

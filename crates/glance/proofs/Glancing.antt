@@ -7,9 +7,8 @@ use lib.Dec.{ltb, eqb}
 use borrow.Author.Tests.{eqb-true}
 use Rattle.base.specs.Choice.{pick}
 use Rattle.base.proofs.Tests.{pick-both}
-use Rattle.block.specs.Words.{wordPut}
+use Rattle.block.specs.Words.{wordAt, wordPut}
 use Rattle.face.specs.Reads.{isIdle, seen, statusOf, lineOf, readRegister}
-use Rattle.face.specs.Quick.{quickReadOf, quickWriteOf, quickWriteBuffer, quickOf, quickBuffer}
 use Rattle.face.specs.declared.Hot.{Hot}
 use Rattle.face.specs.declared.Transfer.{Transfer}
 use Rattle.face.specs.declared.Transfer.the-variants.{Idle, Reading, Writing, ReadingBuffer, WritingBuffer, TakingPassword}
@@ -18,7 +17,8 @@ use Rattle.face.specs.declared.Action.the-variants.{ReadRegister, WriteRegister
 use Rattle.face.specs.declared.Answer.the-variants.{Done}
 use Rattle.face.specs.declared.Quick.{Quick}
 use Rattle.face.specs.declared.Quick.the-variants.{Settles, Slow}
-use Rattle.device.specs.Alone.{devSet, unansweredOf, ignoredOf, quickAlone, quickAloneBuffer}
+use Rattle.fastpath.specs.Quick.{quickReadOf, quickWriteOf, quickWriteBuffer, quickOf, quickBuffer}
+use Rattle.fastpath.specs.Dev.{devSet, unansweredOf, ignoredOf, quickAlone, quickAloneBuffer}
 use Rattle.glance.specs.Places.{placeOf, placedAt, hotWith, hotAt}
 use Rattle.glance.specs.Glances.{takesIn, readGlance, writeGlance, writeGlanceBuffer, statusGlance, registerGlance, glanceOf, glanceBuffer}
 use Rattle.glance.specs.declared.Glance.{Glance}
@@ -46,36 +46,31 @@ quick-again : (q : Quick) (h : Hot) (t : Transfer) (g : Glance) → q ≡ glance
 quick-again q h t (Shows word raised v) e = e
 quick-again q h t Beyond e = refl
 
+-- a word that is not its block's last, which `x` says
+glance-word : (x : Bool) (h : Hot) (t : Transfer) (word : ℕ) (raised : Bool) (v : ℕ)
+    → pick x (Settles (seen (hotWith h t (word + 1) raised) Done v)) Slow ≡ glanceThen h t (pick x (Shows (word + 1) raised v) Beyond) Slow
+glance-word true h t word raised v = refl
+glance-word false h t word raised v = refl
+
 glance-read : (h : Hot) (t : Transfer) (word : ℕ) (raised : Bool) (b : List ℕ)
     → quickReadOf (hotWith h t word raised) b (placedAt t word) ≡ glanceThen h t (readGlance t word raised b) Slow
 unfolding quickReadOf readGlance
-glance-read h t word raised b = go t (ltb word 255) refl
-  where
-    go : (t : Transfer) (x : Bool) → ltb word 255 ≡ x → quickReadOf (hotWith h t word raised) b (placedAt t word) ≡ glanceThen h t (readGlance t word raised b) Slow
-    go Idle x e = refl
-    go (Reading r) true e = simp e
-    go (Reading r) false e = simp e
-    go (Writing r) x e = refl
-    go (ReadingBuffer n) true e = simp e
-    go (ReadingBuffer n) false e = simp e
-    go (WritingBuffer n) x e = refl
-    go (TakingPassword p) x e = refl
+glance-read h Idle word raised b = refl
+glance-read h (Reading r) word raised b = glance-word (ltb word 255) h (Reading r) word raised (wordAt b word)
+glance-read h (Writing r) word raised b = refl
+glance-read h (ReadingBuffer n) word raised b = glance-word (ltb word 255) h (ReadingBuffer n) word raised (wordAt b word)
+glance-read h (WritingBuffer n) word raised b = refl
+glance-read h (TakingPassword p) word raised b = refl
 
 glance-write : (h : Hot) (t : Transfer) (word : ℕ) (raised : Bool)
     → quickWriteOf (hotWith h t word raised) (placedAt t word) ≡ glanceThen h t (writeGlance t word raised) Slow
 unfolding quickWriteOf writeGlance
-glance-write h t word raised = go t (ltb word 255) refl
-  where
-    go : (t : Transfer) (x : Bool) → ltb word 255 ≡ x → quickWriteOf (hotWith h t word raised) (placedAt t word) ≡ glanceThen h t (writeGlance t word raised) Slow
-    go Idle x e = refl
-    go (Reading r) x e = refl
-    go (Writing r) true e = simp e
-    go (Writing r) false e = simp e
-    go (ReadingBuffer n) x e = refl
-    go (WritingBuffer n) true e = simp e
-    go (WritingBuffer n) false e = simp e
-    go (TakingPassword p) true e = simp e
-    go (TakingPassword p) false e = simp e
+glance-write h Idle word raised = refl
+glance-write h (Reading r) word raised = refl
+glance-write h (Writing r) word raised = glance-word (ltb word 255) h (Writing r) word raised 0
+glance-write h (ReadingBuffer n) word raised = refl
+glance-write h (WritingBuffer n) word raised = glance-word (ltb word 255) h (WritingBuffer n) word raised 0
+glance-write h (TakingPassword p) word raised = glance-word (ltb word 255) h (TakingPassword p) word raised 0
 
 idle-placed : (t : Transfer) (word : ℕ) → isIdle (placedAt t word) ≡ isIdle t
 idle-placed Idle word = refl

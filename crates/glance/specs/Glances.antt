@@ -1,4 +1,4 @@
--- Actions that move nothing but the place of the next word and the interrupt. The law glance-quick shows that each is what the fast path settles.
+-- Actions that move nothing but the place of the next word and the interrupt. The law glance-settles says that each is what the fast path settles.
 use Prim.Native.Nat.{ℕ, _+_}
 use mathlib.Core.Bool.{Bool, true, false}
 use mathlib.Core.List.{List}
@@ -11,7 +11,7 @@ use Rattle.face.specs.declared.Transfer.the-variants.{Idle, Reading, Writing, R
 use Rattle.face.specs.declared.Hot.{Hot}
 use Rattle.face.specs.declared.Action.{Action}
 use Rattle.face.specs.declared.Action.the-variants.{ReadRegister, WriteRegister, ReadWord, WriteWord, HardwareReset, PowerOn, Line}
-use Rattle.device.specs.Alone.{devSet}
+use Rattle.fastpath.specs.Dev.{devSet}
 use Rattle.glance.specs.Places.{withInterrupt}
 use Rattle.glance.specs.declared.Glance.{Glance}
 use Rattle.glance.specs.declared.Glance.the-variants.{Shows, Beyond}

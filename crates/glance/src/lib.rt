@@ -129,7 +129,7 @@ fn look_write(transfer: Transfer, word: u8, raised: bool, buffer: &mut [u8; 512]
 fn look_status(hot: Hot, word: u8, raised: bool) -> Glance
     ensures { λ r. ⌜ r ≡ statusGlance hot word raised ⌝ }
 {
-    if device::dev_set(hot) {
+    if fastpath::dev_set(hot) {
         return Glance::Beyond;
     }
     Glance::Shows(word, raised, hot.status() as u16)

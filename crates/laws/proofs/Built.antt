@@ -8,39 +8,44 @@ use Rattle.base.proofs.Tests.{pick-both}
 use Rattle.geometry.specs.Translation.{initializedOf}
 use Rattle.geometry.specs.declared.Initialized.{Initialized}
 use Rattle.geometry.specs.declared.Initialized.the-variants.{To, Aborted}
-use Rattle.address.specs.Successor.{successorOf}
+use Rattle.successor.specs.Successor.{successorOf}
 use Rattle.address.specs.declared.AddressRegisters.{AddressRegisters}
 use Rattle.address.specs.declared.Address.{Address}
 use Rattle.address.specs.declared.Address.the-variants.{Names, Faults}
 use Rattle.lock.specs.declared.Secrets.{Secrets}
 use Rattle.lock.specs.declared.Purpose.{Purpose}
 use Rattle.lock.specs.declared.Purpose.the-variants.{Set, Unlock, Erase, Disable}
-use Rattle.lock.specs.declared.Verdict.{Verdict}
-use Rattle.lock.specs.declared.Verdict.the-variants.{EndsWell, Aborts, Erases}
+use Rattle.judging.specs.declared.Verdict.{Verdict}
+use Rattle.judging.specs.declared.Verdict.the-variants.{EndsWell, Aborts, Erases}
 use Rattle.codes.specs.Commands.{decodeOf}
 use Rattle.codes.specs.MayRun.{mayRunOf, barredOf}
 use Rattle.codes.specs.declared.Command.{Command}
 use Rattle.codes.specs.declared.Command.the-variants.{Unknown, Recalibrate, ReadSectors, WriteSectors, VerifySectors, Seek, ExecuteDiagnostic, InitializeParameters, ReadBuffer, WriteBuffer, IdentifyDevice, SecuritySetPassword, SecurityUnlock, SecurityErasePrepare, SecurityEraseUnit, SecurityFreezeLock, SecurityDisablePassword}
 use Rattle.settled.specs.declared.Settled.{Settled}
 use Rattle.block.specs.Sectors.{zeroBlock}
-use Rattle.face.specs.Face.{withBuffer}
-use Rattle.face.specs.Writes.{srstOf}
-use Rattle.face.specs.Resets.{dropPurpose, idleFace, dropAs, droppedOf, controlOf}
+use Rattle.face.specs.Face.{withBuffer, idleFace}
+use Rattle.resets.specs.Control.{srstOf, controlOf}
+use Rattle.resets.specs.Resets.{dropPurpose, dropAs, droppedOf}
 use Rattle.face.specs.declared.Run.{Run}
 use Rattle.face.specs.declared.Transfer.{Transfer}
 use Rattle.face.specs.declared.Transfer.the-variants.{Idle, Reading, Writing, ReadingBuffer, WritingBuffer, TakingPassword}
 use Rattle.face.specs.declared.Face.{Face}
 use Rattle.face.specs.declared.Action.{Action}
 use Rattle.face.specs.declared.Action.the-variants.{ReadRegister, WriteRegister, ReadWord, WriteWord, HardwareReset, PowerOn, Line}
-use Rattle.transfers.specs.Sectors.{located, afterOf, notFoundOf, readAs, readAt, readSectorsOf, writeAs, writeAt, writeSectorsOf, verifyAs, verifyLast, verifyFrom, verifySectorsOf}
-use Rattle.transfers.specs.Words.{readNextOf, readRunOf, readBufferWord, readWordAs, readWordOf, wordIn, wantAs, wantAt, writeNextOf, writeLastAs, writeLastOf, writeRunOf, writeBufferWord}
+use Rattle.transfers.specs.Sectors.{located, afterOf, notFoundOf}
+use Rattle.reading.specs.Sectors.{readAs, readAt, readSectorsOf, verifyAs, verifyLast, verifyFrom, verifySectorsOf}
+use Rattle.writing.specs.Sectors.{writeAs, writeAt, writeSectorsOf}
+use Rattle.transfers.specs.Words.{readBufferWord, wordIn, writeBufferWord}
+use Rattle.reading.specs.Words.{readNextOf, readRunOf, readWordAs, readWordOf}
+use Rattle.writing.specs.Words.{wantAs, wantAt, writeNextOf, writeLastAs, writeLastOf, writeRunOf}
+use Rattle.fastpath.specs.Dev.{ignoredOf}
 use Rattle.transfers.specs.declared.Told.{Told}
 use Rattle.commands.specs.Others.{seekAs, seekOf, recalibrateOf, initializeAs, initializeParametersOf, diagnosticOf, identifyDeviceOf, readBufferOf, writeBufferOf, takePasswordOf, erasePrepareOf, freezeLockOf}
 use Rattle.commands.specs.Gate.{begunOf, abortAtOnce, runOf, stationsOf, commandOf}
-use Rattle.disk.specs.Passwords.{passwordEnded, endedAs, judgementOf, passwordLast, passwordWord}
-use Rattle.disk.specs.declared.Acted.{Acted}
+use Rattle.password.specs.Passwords.{passwordEnded, endedAs, judgementOf, passwordLast, passwordWord}
+use Rattle.password.specs.declared.Acted.{Acted}
 use Rattle.disk.specs.Actions.{writeRegisterOf, writeWordAs, writeWordOf, actOf}
-use Rattle.device.specs.Alone.{Step, ignoredOf, aloneOf}
+use Rattle.device.specs.Alone.{Step, aloneOf}
 use Rattle.device.specs.declared.Device.{Device}
 
 -- geometry and identity are those of s
@@ -137,12 +142,12 @@ drop-built f (Writing r) = built refl refl
 drop-built f (ReadingBuffer n) = built refl refl
 drop-built f (WritingBuffer n) = built refl refl
 drop-built f (TakingPassword b) =
-    let k = drop-purpose-built (withBuffer (idleFace f) zeroBlock) (b .purpose) in built (k .geometry) (k .identity)
+    let k = drop-purpose-built (withBuffer f zeroBlock) (b .purpose) in built (k .geometry) (k .identity)
 
 command-built : (f : Face) (m : List ℕ) (code : ℕ) → Built (f .settled) (commandOf f m code)
 unfolding commandOf begunOf droppedOf
 command-built f m code =
-    let d = drop-built f (f .hot .transfer) in
+    let d = drop-built (idleFace f) (f .hot .transfer) in
     let k = stations-built (begunOf f) m code in
     pick-both (Built (f .settled)) (f .hot .signals .held) _ _ (built refl refl) (built (k .geometry ∙ d .geometry) (k .identity ∙ d .identity))
 

@@ -11,8 +11,8 @@ use Rattle.address.specs.declared.Address.{Address}
 use Rattle.address.specs.declared.Address.the-variants.{Names, Faults}
 use Rattle.lock.specs.declared.Secrets.{Secrets}
 use Rattle.lock.specs.declared.Purpose.{Purpose}
-use Rattle.lock.specs.declared.Verdict.{Verdict}
-use Rattle.lock.specs.declared.Verdict.the-variants.{EndsWell, Aborts, Erases}
+use Rattle.judging.specs.declared.Verdict.{Verdict}
+use Rattle.judging.specs.declared.Verdict.the-variants.{EndsWell, Aborts, Erases}
 use Rattle.face.specs.declared.Run.{Run}
 use Rattle.face.specs.declared.PasswordBlock.{PasswordBlock}
 use Rattle.face.specs.declared.Face.{Face}
@@ -21,11 +21,14 @@ use Rattle.face.specs.declared.Transfer.the-variants.{Idle, Reading, Writing, R
 use Rattle.face.specs.declared.Answer.the-variants.{Done, NoTransfer}
 use Rattle.face.specs.declared.Action.{Action}
 use Rattle.face.specs.declared.Action.the-variants.{ReadWord, WriteWord}
-use Rattle.transfers.specs.Sectors.{located, nextRun, notFoundOf, readAs, readAt}
-use Rattle.transfers.specs.Words.{readNextOf, readRunOf, readBufferWord, readWordAs, readWordOf, wordIn, wantAs, wantAt, writeNextOf, writeLastAs, writeLastOf, writeRunOf, writeBufferWord}
-use Rattle.disk.specs.Passwords.{passwordEnded, endedAs, judgementOf, passwordLast, passwordWord}
+use Rattle.transfers.specs.Sectors.{located, nextRun, notFoundOf}
+use Rattle.reading.specs.Sectors.{readAs, readAt}
+use Rattle.transfers.specs.Words.{readBufferWord, wordIn, writeBufferWord}
+use Rattle.reading.specs.Words.{readNextOf, readRunOf, readWordAs, readWordOf}
+use Rattle.writing.specs.Words.{wantAs, wantAt, writeNextOf, writeLastAs, writeLastOf, writeRunOf}
+use Rattle.password.specs.Passwords.{passwordEnded, endedAs, judgementOf, passwordLast, passwordWord}
 use Rattle.disk.specs.Actions.{writeWordAs, writeWordOf, actOf}
-use Rattle.disk.specs.declared.Acted.{Acted}
+use Rattle.password.specs.declared.Acted.{Acted}
 
 -- how many words a transfer has still to take
 abbrev pub wordsLeft : Transfer → ℕ

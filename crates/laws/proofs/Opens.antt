@@ -6,22 +6,25 @@ use Prim.Native.Nat.{ℕ, _≤_}
 use borrow.Author.Tests.{eq-eqb, le-ltb}
 use Rattle.block.specs.Sectors.{zeroBlock, zeroed}
 use Rattle.block.specs.Words.{wordPut}
-use Rattle.lock.specs.Lock.{isLocked, openedOf, unpreparedOf, disabledOf}
-use Rattle.lock.specs.Passwords.{zeroPassword, withUser}
-use Rattle.lock.specs.Judging.{judged, acceptsOf, judgeOf}
-use Rattle.lock.specs.declared.Judged.{Judged}
+use Rattle.lock.specs.Lock.{isLocked, unpreparedOf}
+use Rattle.judging.specs.Judging.{openedOf, disabledOf, judged, acceptsOf, judgeOf}
+use Rattle.lock.specs.Passwords.{zeroPassword}
+use Rattle.judging.specs.Passwords.{withUser}
+use Rattle.judging.specs.declared.Judged.{Judged}
 use Rattle.lock.specs.declared.Purpose.{Purpose}
 use Rattle.lock.specs.declared.Purpose.the-variants.{Unlock, Erase}
-use Rattle.lock.specs.declared.Verdict.the-variants.{EndsWell}
-use Rattle.lock.proofs.Opening.{SendsUser, SendsMaster, user-opens, master-opens, erases}
+use Rattle.judging.specs.declared.Verdict.the-variants.{EndsWell}
+use Rattle.judging.proofs.Opening.{SendsUser, SendsMaster, user-opens, master-opens, erases}
 use Rattle.face.specs.declared.PasswordBlock.{PasswordBlock}
 use Rattle.face.specs.declared.Transfer.{Transfer}
 use Rattle.face.specs.declared.Transfer.the-variants.{TakingPassword}
 use Rattle.face.specs.declared.Action.the-variants.{WriteWord}
+use Rattle.fastpath.specs.Dev.{ignoredOf}
 use Rattle.transfers.specs.Words.{wordIn}
-use Rattle.disk.specs.Passwords.{sectorsAs, judgedActed, passwordLast, passwordLastSectors, passwordWord, passwordWordSectors}
-use Rattle.disk.specs.Actions.{effect, writeWordAs, writeWordOf, actOf}
-use Rattle.device.specs.Alone.{Step, stepAs, ignoredOf, aloneOf}
+use Rattle.password.specs.Passwords.{sectorsAs, judgedActed, passwordLast, passwordLastSectors, passwordWord, passwordWordSectors}
+use Rattle.password.specs.Effects.{effect}
+use Rattle.disk.specs.Actions.{writeWordAs, writeWordOf, actOf}
+use Rattle.device.specs.Alone.{Step, stepAs, aloneOf}
 use Rattle.device.specs.Host.{Ready, stepOf}
 use Rattle.device.specs.declared.Device.{Device}
 

@@ -15,7 +15,7 @@ use Rattle.geometry.specs.Translation.{initializedOf}
 use Rattle.geometry.specs.declared.Initialized.{Initialized}
 use Rattle.geometry.specs.declared.Initialized.the-variants.{To, Aborted}
 use Rattle.geometry.proofs.Translations.{factory-allowed}
-use Rattle.address.specs.Successor.{successorOf}
+use Rattle.successor.specs.Successor.{successorOf}
 use Rattle.address.specs.declared.AddressRegisters.{AddressRegisters}
 use Rattle.address.specs.declared.Address.{Address}
 use Rattle.address.specs.declared.Address.the-variants.{Names, Faults}
@@ -23,8 +23,8 @@ use Rattle.address.specs.declared.Sector.{Sector}
 use Rattle.lock.specs.Lock.{securityFits}
 use Rattle.lock.specs.declared.Secrets.{Secrets}
 use Rattle.lock.specs.declared.Purpose.{Purpose}
-use Rattle.lock.specs.declared.Verdict.{Verdict}
-use Rattle.lock.specs.declared.Verdict.the-variants.{EndsWell, Aborts, Erases}
+use Rattle.judging.specs.declared.Verdict.{Verdict}
+use Rattle.judging.specs.declared.Verdict.the-variants.{EndsWell, Aborts, Erases}
 use Rattle.codes.specs.Commands.{codedOf, decodeOf}
 use Rattle.codes.specs.MayRun.{mayRunOf, barredOf}
 use Rattle.codes.specs.declared.Command.{Command}
@@ -33,10 +33,11 @@ use Rattle.settled.specs.Identity.{identityFits}
 use Rattle.settled.specs.Settled.{settledFits}
 use Rattle.settled.specs.declared.Identity.{Identity}
 use Rattle.settled.proofs.Clauses.{clauses-settled}
+use Rattle.settled.specs.Setup.{freshSettled}
 use Rattle.face.specs.Face.{withSettled}
 use Rattle.face.specs.Reads.{isIdle, readRegister}
-use Rattle.face.specs.Writes.{busyOf, storeRegister, putRegister, srstOf}
-use Rattle.face.specs.Resets.{controlOf}
+use Rattle.face.specs.Writes.{busyOf, storeRegister, putRegister}
+use Rattle.resets.specs.Control.{srstOf, controlOf}
 use Rattle.face.specs.declared.Run.{Run}
 use Rattle.face.specs.declared.Registers.{Registers}
 use Rattle.face.specs.declared.Transfer.{Transfer}
@@ -46,19 +47,25 @@ use Rattle.face.specs.declared.Face.{Face}
 use Rattle.face.specs.declared.Seen.{Seen}
 use Rattle.face.specs.declared.Action.{Action}
 use Rattle.face.specs.declared.Action.the-variants.{ReadRegister, WriteRegister, ReadWord, WriteWord, HardwareReset, PowerOn, Line}
-use Rattle.transfers.specs.Sectors.{located, afterOf, firstRun, nextRun, notFoundOf, readAs, readAt, readSectorsOf, writeAs, writeAt, writeSectorsOf, verifyAs, verifyLast, verifyFrom, verifySectorsOf}
-use Rattle.transfers.specs.Words.{readNextOf, readRunOf, readBufferWord, readWordAs, readWordOf, wordIn, wantAs, wantAt, writeNextOf, writeLastAs, writeLastOf, writeRunOf, writeBufferWord}
+use Rattle.transfers.specs.Sectors.{located, afterOf, firstRun, nextRun, notFoundOf}
+use Rattle.reading.specs.Sectors.{readAs, readAt, readSectorsOf, verifyAs, verifyLast, verifyFrom, verifySectorsOf}
+use Rattle.writing.specs.Sectors.{writeAs, writeAt, writeSectorsOf}
+use Rattle.transfers.specs.Words.{readBufferWord, wordIn, writeBufferWord}
+use Rattle.reading.specs.Words.{readNextOf, readRunOf, readWordAs, readWordOf}
+use Rattle.writing.specs.Words.{wantAs, wantAt, writeNextOf, writeLastAs, writeLastOf, writeRunOf}
+use Rattle.fastpath.specs.Dev.{devSet, ignoredOf}
+use Rattle.face.specs.Setup.{zeroFace}
 use Rattle.transfers.specs.declared.Told.{Told}
 use Rattle.commands.specs.Others.{seekAs, seekOf, recalibrateOf, initializeAs, initializeParametersOf, diagnosticOf, identifyDeviceOf, readBufferOf, writeBufferOf, takePasswordOf, erasePrepareOf, freezeLockOf}
 use Rattle.commands.specs.Gate.{begunOf, abortAtOnce, runOf, stationsOf, commandOf}
-use Rattle.disk.specs.Shape.{diskFits}
-use Rattle.disk.specs.Passwords.{passwordEnded, endedAs, judgementOf, passwordLast, passwordWord}
-use Rattle.disk.specs.declared.Acted.{Acted}
+use Rattle.shape.specs.Shape.{diskFits}
+use Rattle.password.specs.Passwords.{passwordEnded, endedAs, judgementOf, passwordLast, passwordWord}
+use Rattle.password.specs.declared.Acted.{Acted}
 use Rattle.disk.specs.Actions.{writeRegisterOf, writeWordAs, writeWordOf, actOf}
-use Rattle.disk.proofs.Clauses.{Fits, shape-clauses, clauses-shape}
-use Rattle.device.specs.Alone.{devSet, ignoredOf, aloneOf}
+use Rattle.shape.proofs.Clauses.{Fits, shape-clauses, clauses-shape}
+use Rattle.device.specs.Alone.{aloneOf}
 use Rattle.device.specs.Host.{aloneFits, shapedOf, memoryLength, stepOf}
-use Rattle.device.specs.Setup.{zeroFace, zeroDevice, freshSettled, freshOf}
+use Rattle.device.specs.Setup.{zeroDevice, freshOf}
 use Rattle.device.specs.declared.Device.{Device}
 use Rattle.device.proofs.Memories.{shaped-disk}
 use Rattle.laws.proofs.Shape.{drop-leaves, act-fits, power-on-fits, command-held, read-word-held, write-word-held}

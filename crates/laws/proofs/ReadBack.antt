@@ -12,19 +12,23 @@ use Rattle.block.specs.Words.{wordAt, wordPut}
 use Rattle.block.specs.Sectors.{sectorAt, storedAt}
 use Rattle.block.proofs.WordLaws.{put-length, put-same, put-other}
 use Rattle.block.proofs.SectorLaws.{Room, stored-same, stored-other}
-use Rattle.face.specs.Face.{withTransfer, withHot}
-use Rattle.face.specs.Quick.{nextWord}
+use Rattle.face.specs.Face.{withTransfer, withHot, nextWord}
 use Rattle.face.specs.declared.Run.{Run}
 use Rattle.face.specs.declared.Face.{Face}
 use Rattle.face.specs.declared.Transfer.{Transfer}
 use Rattle.face.specs.declared.Transfer.the-variants.{Reading, Writing}
 use Rattle.face.specs.declared.Answer.the-variants.{Done}
 use Rattle.face.specs.declared.Action.the-variants.{ReadWord, WriteWord}
-use Rattle.transfers.specs.Sectors.{located, readAs, readAt}
-use Rattle.transfers.specs.Words.{readRunOf, readWordAs, readWordOf, wordIn, writeRunOf, writeRunSectors}
+use Rattle.transfers.specs.Sectors.{located}
+use Rattle.reading.specs.Sectors.{readAs, readAt}
+use Rattle.transfers.specs.Words.{wordIn}
+use Rattle.reading.specs.Words.{readRunOf, readWordAs, readWordOf}
+use Rattle.writing.specs.Words.{writeRunOf, writeRunSectors}
 use Rattle.transfers.proofs.Reached.{memory-room}
-use Rattle.disk.specs.Actions.{effect, toldActed, writeWordAs, writeWordOf, actOf}
-use Rattle.device.specs.Alone.{Step, deviceOf, outcome, stepAs, ignoredOf, aloneOf}
+use Rattle.password.specs.Effects.{effect}
+use Rattle.disk.specs.Actions.{toldActed, writeWordAs, writeWordOf, actOf}
+use Rattle.device.specs.Alone.{Step, deviceOf, outcome, stepAs, aloneOf}
+use Rattle.fastpath.specs.Dev.{ignoredOf}
 use Rattle.device.specs.Host.{Ready, shapedOf, stepOf}
 use Rattle.device.specs.declared.Device.{Device}
 use Rattle.device.proofs.Memories.{shaped-memory}

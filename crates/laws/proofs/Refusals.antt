@@ -14,7 +14,7 @@ use Rattle.lock.specs.declared.Secrets.{Secrets}
 use Rattle.settled.specs.Identity.{identityFits}
 use Rattle.settled.specs.declared.Identity.{Identity}
 use Rattle.face.specs.Face.{withHot}
-use Rattle.face.specs.Reads.{numberOf, seen, readRegister}
+use Rattle.face.specs.Reads.{numberOf, seen, readRegister, valueOf}
 use Rattle.face.specs.declared.Hot.{Hot}
 use Rattle.face.specs.declared.Face.{Face}
 use Rattle.face.specs.declared.Seen.{Seen}
@@ -24,12 +24,15 @@ use Rattle.face.specs.declared.Answer.{Answer}
 use Rattle.face.specs.declared.Answer.the-variants.{Done, NoRegister, OutOfShape, WrongLength}
 use Rattle.face.specs.declared.Action.{Action}
 use Rattle.face.specs.declared.Action.the-variants.{ReadRegister, WriteRegister, ReadWord, WriteWord, HardwareReset, PowerOn, Line}
-use Rattle.transfers.specs.Words.{told, noTransfer, readWordAs, readWordOf}
+use Rattle.transfers.specs.Words.{told, noTransfer}
+use Rattle.reading.specs.Words.{readWordAs, readWordOf}
 use Rattle.transfers.specs.declared.Told.{Told}
-use Rattle.disk.specs.Passwords.{passwordLast, passwordWord}
-use Rattle.disk.specs.Actions.{Effect, wordRefused, writeRegisterOf, writeWordAs, writeWordOf, actOf}
-use Rattle.disk.specs.declared.Acted.{Acted}
-use Rattle.device.specs.Alone.{Step, deviceOf, valueOf, outcome, shown, ignoredOf, actedOf, aloneOf}
+use Rattle.password.specs.Passwords.{passwordLast, passwordWord}
+use Rattle.password.specs.Effects.{Effect}
+use Rattle.disk.specs.Actions.{wordRefused, writeRegisterOf, writeWordAs, writeWordOf, actOf}
+use Rattle.password.specs.declared.Acted.{Acted}
+use Rattle.device.specs.Alone.{Step, deviceOf, outcome, shown, actedOf, aloneOf}
+use Rattle.fastpath.specs.Dev.{ignoredOf}
 use Rattle.device.specs.Host.{shapedOf, memoryLength, stepOf}
 use Rattle.device.specs.Setup.{freshOf, setupRefused, setupOf}
 use Rattle.device.specs.declared.Device.{Device}

@@ -11,7 +11,7 @@ use Rattle.geometry.specs.declared.Translation.{Translation}
 use Rattle.geometry.specs.declared.Initialized.{Initialized}
 use Rattle.geometry.specs.declared.Initialized.the-variants.{To, Aborted}
 use Rattle.geometry.proofs.Translations.{made-allowed, factory-allowed}
-use Rattle.address.specs.Successor.{successorOf}
+use Rattle.successor.specs.Successor.{successorOf}
 use Rattle.address.specs.declared.AddressRegisters.{AddressRegisters}
 use Rattle.address.specs.declared.Address.{Address}
 use Rattle.address.specs.declared.Address.the-variants.{Names, Faults}
@@ -23,9 +23,10 @@ use Rattle.lock.specs.declared.Security.{Security}
 use Rattle.lock.specs.declared.Secrets.{Secrets}
 use Rattle.lock.specs.declared.Purpose.{Purpose}
 use Rattle.lock.specs.declared.Purpose.the-variants.{Set, Unlock, Erase, Disable}
-use Rattle.lock.specs.declared.Verdict.{Verdict}
-use Rattle.lock.specs.declared.Verdict.the-variants.{EndsWell, Aborts, Erases}
-use Rattle.lock.proofs.Sound.{fits-sound, sound-fits, judge-sound, freeze-sound, prepare-sound, unprepare-sound, power-on-sound}
+use Rattle.judging.specs.declared.Verdict.{Verdict}
+use Rattle.judging.specs.declared.Verdict.the-variants.{EndsWell, Aborts, Erases}
+use Rattle.lock.proofs.Sound.{fits-sound, sound-fits, freeze-sound, prepare-sound, unprepare-sound, power-on-sound}
+use Rattle.judging.proofs.Judgements.{judge-sound}
 use Rattle.codes.specs.Commands.{decodeOf}
 use Rattle.codes.specs.MayRun.{notLocked, notFrozen, runsIn, mayRunOf, barredOf}
 use Rattle.codes.specs.declared.Command.{Command}
@@ -33,11 +34,12 @@ use Rattle.codes.specs.declared.Command.the-variants.{Unknown, Recalibrate, Rea
 use Rattle.settled.specs.Settled.{withTranslation, withSecurity, settledFits}
 use Rattle.settled.specs.declared.Settled.{Settled}
 use Rattle.settled.proofs.Clauses.{settled-clauses, clauses-settled}
-use Rattle.face.specs.Face.{withBuffer, withHot}
+use Rattle.face.specs.Face.{withBuffer, withHot, idleFace}
 use Rattle.face.specs.Reads.{isIdle, readRegister}
-use Rattle.face.specs.Writes.{busyOf, storeRegister, putRegister, srstOf, nienOf}
+use Rattle.face.specs.Writes.{busyOf, storeRegister, putRegister}
+use Rattle.resets.specs.Control.{srstOf, nienOf, softResetOf, controlOf}
 use Rattle.block.specs.Sectors.{zeroBlock}
-use Rattle.face.specs.Resets.{idleFace, dropPurpose, dropAs, droppedOf, poweredOnFace, softResetOf, controlOf}
+use Rattle.resets.specs.Resets.{dropPurpose, dropAs, droppedOf, poweredOnFace}
 use Rattle.face.specs.declared.Run.{Run}
 use Rattle.face.specs.declared.Signals.{Signals}
 use Rattle.face.specs.declared.PasswordBlock.{PasswordBlock}
@@ -47,16 +49,20 @@ use Rattle.face.specs.declared.Hot.{Hot}
 use Rattle.face.specs.declared.Face.{Face}
 use Rattle.face.specs.declared.Action.{Action}
 use Rattle.face.specs.declared.Action.the-variants.{ReadRegister, WriteRegister, ReadWord, WriteWord, HardwareReset, PowerOn, Line}
-use Rattle.transfers.specs.Sectors.{located, notFoundOf, readAs, readAt, readSectorsOf, writeAs, writeAt, writeSectorsOf, verifyAs, verifyLast, verifyFrom, verifySectorsOf}
-use Rattle.transfers.specs.Words.{readNextOf, readRunOf, readBufferWord, readWordAs, readWordOf, wordIn, wantAs, wantAt, writeNextOf, writeLastAs, writeLastOf, writeRunOf, writeBufferWord}
+use Rattle.transfers.specs.Sectors.{located, notFoundOf}
+use Rattle.reading.specs.Sectors.{readAs, readAt, readSectorsOf, verifyAs, verifyLast, verifyFrom, verifySectorsOf}
+use Rattle.writing.specs.Sectors.{writeAs, writeAt, writeSectorsOf}
+use Rattle.transfers.specs.Words.{readBufferWord, wordIn, writeBufferWord}
+use Rattle.reading.specs.Words.{readNextOf, readRunOf, readWordAs, readWordOf}
+use Rattle.writing.specs.Words.{wantAs, wantAt, writeNextOf, writeLastAs, writeLastOf, writeRunOf}
 use Rattle.commands.specs.Others.{seekAs, seekOf, recalibrateOf, initializeAs, initializeParametersOf, diagnosticOf, identifyDeviceOf, readBufferOf, writeBufferOf, takePasswordOf, erasePrepareOf, freezeLockOf}
 use Rattle.commands.specs.Gate.{begunOf, abortAtOnce, runOf, stationsOf, commandOf}
-use Rattle.disk.specs.Shape.{isNamed, runFits, purposeFits, passwordFits, transferFits, heldFits}
+use Rattle.shape.specs.Shape.{isNamed, runFits, purposeFits, passwordFits, transferFits, heldFits}
 use Rattle.transfers.specs.declared.Told.{Told}
 use Rattle.face.specs.declared.Seen.{Seen}
-use Rattle.disk.specs.declared.Acted.{Acted}
-use Rattle.disk.specs.Passwords.{passwordEnded, endedAs, judgementOf, passwordLast, passwordWord}
-use Rattle.disk.proofs.Clauses.{Fits}
+use Rattle.password.specs.declared.Acted.{Acted}
+use Rattle.password.specs.Passwords.{passwordEnded, endedAs, judgementOf, passwordLast, passwordWord}
+use Rattle.shape.proofs.Clauses.{Fits}
 use Rattle.disk.specs.Actions.{writeRegisterOf, writeWordAs, writeWordOf, actOf}
 
 -- with other security settings, themselves in shape
@@ -222,12 +228,14 @@ drop-as-leaves f (Writing r) = record { regs = refl; signals = refl; sound = λ 
 drop-as-leaves f (ReadingBuffer n) = record { regs = refl; signals = refl; sound = λ e. e }
 drop-as-leaves f (WritingBuffer n) = record { regs = refl; signals = refl; sound = λ e. e }
 drop-as-leaves f (TakingPassword b) =
-    let d = drop-purpose-leaves (withBuffer (idleFace f) zeroBlock) (b .purpose) in
+    let d = drop-purpose-leaves (withBuffer f zeroBlock) (b .purpose) in
     record { regs = d .regs; signals = d .signals; sound = d .sound }
 
 pub drop-leaves : (f : Face) → Dropped f (droppedOf f)
 unfolding droppedOf
-drop-leaves f = drop-as-leaves f (f .hot .transfer)
+drop-leaves f =
+    let d = drop-as-leaves (idleFace f) (f .hot .transfer) in
+    record { regs = d .regs; signals = d .signals; sound = d .sound }
 
 begun-free : (f : Face) (m : List ℕ) (code : ℕ) → Fits f → f .hot .signals .held ≡ false → Free (stationsOf (begunOf f) m code)
 unfolding begunOf

@@ -20,10 +20,12 @@ use Rattle.face.specs.declared.Transfer.{Transfer}
 use Rattle.face.specs.declared.Transfer.the-variants.{Writing}
 use Rattle.face.specs.declared.Action.{Action}
 use Rattle.face.specs.declared.Action.the-variants.{ReadRegister, WriteRegister, ReadWord, WriteWord, HardwareReset, PowerOn, Line}
+use Rattle.fastpath.specs.Dev.{ignoredOf}
 use Rattle.transfers.specs.Sectors.{located}
-use Rattle.transfers.specs.Words.{wordIn, storeAs, writeLastSectors, writeRunSectors}
+use Rattle.transfers.specs.Words.{wordIn}
+use Rattle.writing.specs.Words.{storeAs, writeLastSectors, writeRunSectors}
 use Rattle.disk.specs.Actions.{writeWordAs, writeWordOf, actOf}
-use Rattle.device.specs.Alone.{Step, ignoredOf, aloneOf}
+use Rattle.device.specs.Alone.{Step, aloneOf}
 use Rattle.device.specs.Host.{Ready, shapedOf, memoryLength, stepOf}
 use Rattle.device.specs.declared.Device.{Device}
 

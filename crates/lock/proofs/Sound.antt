@@ -1,22 +1,15 @@
--- Security settings in shape, said by their bounds; every change to them that a command, a password block or a reset makes keeps them so.
+-- Security settings in shape, said by their bounds; F3h, F5h, the end of a preparation and a reset keep them so.
 use mathlib.Core.Bool.{Bool, true, false, not}
 use mathlib.Core.Path.{_≡_, refl}
-use mathlib.Core.List.{List}
-use Prim.Native.Nat.{ℕ, _≤_}
+use Prim.Native.Nat.{_≤_}
 use native.Mathlib.Omega.{arith}
 use borrow.Author.Tests.{le-leb, leb-true}
-use lib.Dec.{leb, ltb}
+use lib.Dec.{leb}
 use Rattle.base.specs.Choice.{pick}
 use Rattle.base.proofs.Tests.{false≢true, both-true}
-use Rattle.lock.specs.Lock.{isOpen, isLocked, openedOf, frozenOf, preparedOf, unpreparedOf, mismatchedOf, startingLock, poweredOn, securityFits}
-use Rattle.lock.specs.Passwords.{masterPicked, matchesOf}
-use Rattle.lock.specs.Judging.{setOf, masterAtMaximum, unlockLocked, unlockOf, acceptsOf, eraseOf, disableOf, judgeOf}
+use Rattle.lock.specs.Lock.{isOpen, isLocked, frozenOf, preparedOf, unpreparedOf, startingLock, poweredOn, securityFits}
 use Rattle.lock.specs.declared.Lock.the-variants.{Open, Locked}
 use Rattle.lock.specs.declared.Security.{Security}
-use Rattle.lock.specs.declared.Secrets.{Secrets}
-use Rattle.lock.specs.declared.Judged.{Judged}
-use Rattle.lock.specs.declared.Purpose.{Purpose}
-use Rattle.lock.specs.declared.Purpose.the-variants.{Set, Unlock, Erase, Disable}
 
 -- at most five attempts, and locked only with security enabled
 pub record Sound (s : Security) : Type 0 where
@@ -40,50 +33,6 @@ sound-fits s k = go (isLocked (s .lock)) refl
     go : (b : Bool) → isLocked (s .lock) ≡ b → securityFits s ≡ true
     go true h = simp (h, k .sure h, le-leb (s .attempts) 5 (k .few))
     go false h = simp (h, le-leb (s .attempts) 5 (k .few))
-
-open-sound : (s : Security) → s .attempts ≤ 5 → Sound (openedOf s)
-open-sound s k = record { few = k; sure = λ l. absurd (false≢true l) }
-
-mismatch-sound : (s : Security) → Sound s → Sound (mismatchedOf s)
-unfolding mismatchedOf
-mismatch-sound s k = go (ltb 0 (s .attempts)) refl
-  where
-    go : (b : Bool) → ltb 0 (s .attempts) ≡ b → Sound (mismatchedOf s)
-    go true e = rw e record { few = let h : s .attempts ≤ 5 = k .few in omega arith; sure = k .sure }
-    go false e = rw e k
-
--- one of two judgements
-pick-sound : (b : Bool) (j k : Judged) → Sound (j .security) → Sound (k .security) → Sound (pick b j k .security)
-pick-sound true j k p q = p
-pick-sound false j k p q = q
-
-set-sound : (s : Security) (x : Secrets) (b : List ℕ) → Sound s → Sound (setOf s x b .security)
-unfolding setOf
-set-sound s x b k = pick-sound (masterPicked b) _ _ k record { few = k .few; sure = λ l. refl }
-
-unlock-sound : (s : Security) (x : Secrets) (b : List ℕ) → Sound s → Sound (unlockOf s x b .security)
-unfolding unlockOf unlockLocked
-unlock-sound s x b k =
-    pick-sound (isLocked (s .lock)) _ _
-    (pick-sound (masterAtMaximum s b) _ _ k (pick-sound (matchesOf x b) _ _ (open-sound s (k .few)) (mismatch-sound s k)))
-    k
-
-erase-sound : (s : Security) (x : Secrets) (b : List ℕ) → Sound s → Sound (eraseOf s x b .security)
-unfolding eraseOf
-erase-sound s x b k =
-    pick-sound (acceptsOf s x b) _ _ record { few = k .few; sure = λ l. absurd (false≢true l) } record { few = k .few; sure = k .sure }
-
-disable-sound : (s : Security) (x : Secrets) (b : List ℕ) → Sound s → Sound (disableOf s x b .security)
-unfolding disableOf
-disable-sound s x b k = pick-sound (acceptsOf s x b) _ _ record { few = k .few; sure = λ l. absurd (false≢true l) } k
-
--- a password block
-pub judge-sound : (p : Purpose) (s : Security) (x : Secrets) (b : List ℕ) → Sound s → Sound (judgeOf p s x b .security)
-unfolding judgeOf
-judge-sound Set s x b k = set-sound s x b k
-judge-sound Unlock s x b k = unlock-sound s x b k
-judge-sound Erase s x b k = erase-sound s x b k
-judge-sound Disable s x b k = disable-sound s x b k
 
 -- F5h, F3h, and the end of a preparation
 pub freeze-sound : (s : Security) → Sound s → Sound (frozenOf s)

@@ -1,3 +1,2 @@
 pub mod Lock
 pub mod Passwords
-pub mod Judging

@@ -1,7 +1,7 @@
 -- The lock and the security settings beside it (document 01, "The disk and its three lives" and "The lock").
-use Prim.Native.Nat.{ℕ, _-_}
+use Prim.Native.Nat.{ℕ}
 use mathlib.Core.Bool.{Bool, true, false}
-use lib.Dec.{eqb, leb, ltb}
+use lib.Dec.{eqb, leb}
 use Rattle.base.specs.Choice.{pick}
 use Rattle.lock.specs.declared.Lock.{Lock}
 use Rattle.lock.specs.declared.Lock.the-variants.{Open, Locked, Frozen}
@@ -40,14 +40,6 @@ abbrev pub withPrepared : Security → Bool → Security
 withPrepared s p =
     record { lock = s .lock; enabled = s .enabled; maximum = s .maximum; attempts = s .attempts; prepared = p }
 
--- the settings with another enabled mark and level
-abbrev pub withLevel : Security → Bool → Bool → Security
-withLevel s e m = record { lock = s .lock; enabled = e; maximum = m; attempts = s .attempts; prepared = s .prepared }
-
--- F2h: "A match opens .. Opening doesn't restore attempts"
-abbrev pub openedOf : Security → Security
-openedOf s = withLock s Open
-
 -- "F5h freezes"
 abbrev pub frozenOf : Security → Security
 frozenOf s = withLock s Frozen
@@ -59,18 +51,6 @@ preparedOf s = withPrepared s true
 -- "preparation lasts until .."
 abbrev pub unpreparedOf : Security → Security
 unpreparedOf s = withPrepared s false
-
--- F2h: "a mismatch aborts and takes one attempt"
-unfoldable pub mismatchedOf : Security → Security
-mismatchedOf s = pick (ltb 0 (s .attempts)) (withAttempts s (s .attempts - 1)) s
-
--- F1h user: "store password and level, enable"
-abbrev pub enabledAt : Security → Bool → Security
-enabledAt s m = withLevel s true m
-
--- F4h and F6h accepted: "security off, level High .. open"
-abbrev pub disabledOf : Security → Security
-disabledOf s = withLock (withLevel s false false) Open
 
 -- "locked exactly if security is enabled"
 unfoldable pub startingLock : Bool → Lock

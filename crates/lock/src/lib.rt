@@ -1,8 +1,7 @@
-// The lock: its three states, the security settings beside it, and what becomes of a password block.
+// The lock: its three states, the security settings beside it, the two stored passwords.
 ghost use mathlib.Core.Path.{_≡_};
-ghost use Rattle.lock.specs.Lock.{isLocked, isFrozen, isOpen, startingLock, withLock, openedOf, frozenOf, preparedOf, unpreparedOf, mismatchedOf, enabledAt, disabledOf, poweredOn, exhaustedOf, cannotErase, securityFits};
-ghost use Rattle.lock.specs.Passwords.{zeroPassword, withUser, withMaster, masterPicked, maximumAsked, pickedOf, matchesOf};
-ghost use Rattle.lock.specs.Judging.{judged, setOf, masterAtMaximum, unlockLocked, unlockOf, acceptsOf, eraseOf, disableOf, judgeOf};
+ghost use Rattle.lock.specs.Lock.{isLocked, isFrozen, isOpen, startingLock, withLock, frozenOf, preparedOf, unpreparedOf, poweredOn, exhaustedOf, cannotErase, securityFits};
+ghost use Rattle.lock.specs.Passwords.{zeroPassword, freshSecrets};
 
 // The three lock states.
 pub enum Lock {
@@ -32,20 +31,6 @@ pub enum Purpose {
     Unlock,
     Erase,
     Disable,
-}
-
-// How a password command ends.
-pub enum Verdict {
-    EndsWell,
-    Aborts,
-    Erases,
-}
-
-// What a whole password block leaves.
-pub struct Judged {
-    pub security: Security,
-    pub secrets: Secrets,
-    pub verdict: Verdict,
 }
 
 impl Lock {
@@ -90,7 +75,8 @@ fn starting_lock(enabled: bool) -> Lock
 }
 
 impl Security {
-    fn with_lock(self, lock: Lock) -> Self
+    // The settings with another lock state.
+    pub fn with_lock(self, lock: Lock) -> Self
         ensures { λ r. ⌜ r ≡ withLock self lock ⌝ }
     {
         Security {
@@ -100,13 +86,6 @@ impl Security {
             attempts: self.attempts,
             prepared: self.prepared,
         }
-    }
-
-    // UNLOCK's match.
-    fn opened(self) -> Self
-        ensures { λ r. ⌜ r ≡ openedOf self ⌝ }
-    {
-        self.with_lock(Lock::Open)
     }
 
     // F5h.
@@ -130,35 +109,6 @@ impl Security {
     {
         self.prepared = false;
         self
-    }
-
-    // UNLOCK's mismatch: one attempt less.
-    fn mismatched(mut self) -> Self
-        ensures { λ r. ⌜ r ≡ mismatchedOf self ⌝ }
-    {
-        if 0 < self.attempts {
-            self.attempts = self.attempts - 1;
-            return self;
-        }
-        self
-    }
-
-    // F1h with the user password.
-    fn enable(mut self, maximum: bool) -> Self
-        ensures { λ r. ⌜ r ≡ enabledAt self maximum ⌝ }
-    {
-        self.enabled = true;
-        self.maximum = maximum;
-        self
-    }
-
-    // Security off, level High, open.
-    fn disable(mut self) -> Self
-        ensures { λ r. ⌜ r ≡ disabledOf self ⌝ }
-    {
-        self.enabled = false;
-        self.maximum = false;
-        self.with_lock(Lock::Open)
     }
 
     // No attempts left.
@@ -210,163 +160,11 @@ pub fn no_password() -> [u8; 32]
 }
 
 impl Secrets {
-    fn with_user(mut self, password: [u8; 32]) -> Self
-        ensures { λ r. ⌜ r ≡ withUser self password ⌝ }
+    // The passwords of a new disk.
+    pub fn fresh(master: [u8; 32]) -> Secrets
+        ensures { λ r. ⌜ r ≡ freshSecrets master ⌝ }
     {
-        self.user = password;
-        self
-    }
-
-    fn with_master(mut self, password: [u8; 32]) -> Self
-        ensures { λ r. ⌜ r ≡ withMaster self password ⌝ }
-    {
-        self.master = password;
-        self
-    }
-
-    // The stored password that the block picks.
-    fn picked(self, block: &[u8; 512]) -> [u8; 32]
-        ensures { λ r. ⌜ r ≡ pickedOf self (now (block .entry)) ⌝ }
-    {
-        let user = self.user;
-        let master = self.master;
-        if master_picked(block) {
-            return master;
-        }
-        user
-    }
-
-    // Whether the block's password is the one that it picks.
-    fn matches(self, block: [u8; 512]) -> bool
-        ensures { λ r. ⌜ r ≡ matchesOf self block ⌝ }
-    {
-        let sent = block::password(block);
-        let stored = self.picked(&block);
-        block::same(sent, stored)
-    }
-}
-
-// Word 0 bit 0: the master password, else the user's.
-fn master_picked(block: &[u8; 512]) -> bool
-    ensures { λ r. ⌜ r ≡ masterPicked (now (block .entry)) ⌝ }
-{
-    block::word_at(block, 0) % 2 == 1
-}
-
-// Word 0 bit 8: level Maximum, else High.
-fn maximum_asked(block: &[u8; 512]) -> bool
-    ensures { λ r. ⌜ r ≡ maximumAsked (now (block .entry)) ⌝ }
-{
-    block::word_at(block, 0) / 256 % 2 == 1
-}
-
-fn ends(security: Security, secrets: Secrets, verdict: Verdict) -> Judged
-    ensures { λ r. ⌜ r ≡ judged security secrets verdict ⌝ }
-{
-    Judged {
-        security,
-        secrets,
-        verdict,
-    }
-}
-
-impl Security {
-    // SECURITY SET PASSWORD (F1h).
-    fn set(self, secrets: Secrets, block: [u8; 512]) -> Judged
-        ensures { λ r. ⌜ r ≡ setOf self secrets block ⌝ }
-    {
-        let password = block::password(block);
-        if master_picked(&block) {
-            return ends(self, secrets.with_master(password), Verdict::EndsWell);
-        }
-        let level = maximum_asked(&block);
-        ends(
-            self.enable(level),
-            secrets.with_user(password),
-            Verdict::EndsWell,
-        )
-    }
-
-    // The master password at level Maximum, which UNLOCK does not take.
-    fn master_at_maximum(self, block: &[u8; 512]) -> bool
-        ensures { λ r. ⌜ r ≡ masterAtMaximum self (now (block .entry)) ⌝ }
-    {
-        if master_picked(block) {
-            return self.maximum;
-        }
-        false
-    }
-
-    fn unlock_locked(self, secrets: Secrets, block: [u8; 512]) -> Judged
-        ensures { λ r. ⌜ r ≡ unlockLocked self secrets block ⌝ }
-    {
-        if self.master_at_maximum(&block) {
-            return ends(self, secrets, Verdict::Aborts);
-        }
-        if secrets.matches(block) {
-            return ends(self.opened(), secrets, Verdict::EndsWell);
-        }
-        ends(self.mismatched(), secrets, Verdict::Aborts)
-    }
-
-    // SECURITY UNLOCK (F2h).
-    fn unlock(self, secrets: Secrets, block: [u8; 512]) -> Judged
-        ensures { λ r. ⌜ r ≡ unlockOf self secrets block ⌝ }
-    {
-        let lock = self.lock;
-        if lock.locked() {
-            return self.unlock_locked(secrets, block);
-        }
-        ends(self, secrets, Verdict::EndsWell)
-    }
-
-    // F4h's rule: compared at either level, uncompared if security is not enabled.
-    fn accepts(self, secrets: Secrets, block: [u8; 512]) -> bool
-        ensures { λ r. ⌜ r ≡ acceptsOf self secrets block ⌝ }
-    {
-        if self.enabled {
-            return secrets.matches(block);
-        }
-        true
-    }
-
-    // SECURITY ERASE UNIT (F4h).
-    fn erase(self, secrets: Secrets, block: [u8; 512]) -> Judged
-        ensures { λ r. ⌜ r ≡ eraseOf self secrets block ⌝ }
-    {
-        if self.accepts(secrets, block) {
-            return ends(
-                self.unprepare().disable(),
-                secrets.with_user(no_password()),
-                Verdict::Erases,
-            );
-        }
-        ends(self.unprepare(), secrets, Verdict::Aborts)
-    }
-
-    // SECURITY DISABLE PASSWORD (F6h).
-    fn disable_password(self, secrets: Secrets, block: [u8; 512]) -> Judged
-        ensures { λ r. ⌜ r ≡ disableOf self secrets block ⌝ }
-    {
-        if self.accepts(secrets, block) {
-            return ends(
-                self.disable(),
-                secrets.with_user(no_password()),
-                Verdict::EndsWell,
-            );
-        }
-        ends(self, secrets, Verdict::Aborts)
-    }
-
-    // A whole password block.
-    pub fn judge(self, purpose: Purpose, secrets: Secrets, block: [u8; 512]) -> Judged
-        ensures { λ r. ⌜ r ≡ judgeOf purpose self secrets block ⌝ }
-    {
-        match purpose {
-            Purpose::Set => self.set(secrets, block),
-            Purpose::Unlock => self.unlock(secrets, block),
-            Purpose::Erase => self.erase(secrets, block),
-            Purpose::Disable => self.disable_password(secrets, block),
-        }
+        let user = no_password();
+        Secrets { user, master }
     }
 }

@@ -5,8 +5,8 @@ use mathlib.Core.Bool.{Bool}
 use mathlib.Core.List.{List, _++_, append-assoc}
 use native.Mathlib.Nat.{add-assoc}
 use native.Mathlib.Omega.{arith}
-use lib.ListN.{length, take, drop, length-drop, length-append}
-use lib.Seq.{sets, take-all, drop-drop}
+use lib.ListN.{length, drop, length-drop, length-append}
+use lib.Seq.{sets, drop-drop}
 use Rattle.face.specs.declared.Action.{Action}
 use Rattle.device.specs.Alone.{Step, aloneOf}
 use Rattle.device.specs.Host.{stepOf}
@@ -15,7 +15,7 @@ use Rattle.records.specs.Records.{nextOf}
 use Rattle.records.specs.declared.Found.{Found}
 use Rattle.records.specs.declared.Found.the-variants.{Record}
 use Rattle.records.proofs.Stores.{write-behind}
-use Rattle.records.proofs.Sizes.{record-within}
+use Rattle.records.proofs.Rest.{rest-within}
 use Rattle.playback.specs.Replay.{Play, onto, answered, playAs, playOf}
 use Rattle.playback.specs.Loops.{Playing}
 use Rattle.playback.proofs.Steps.{ready-step, ready-after}
@@ -39,21 +39,6 @@ unfolding playAs
 play-record last n d m l a size e x g =
     play-next last n d m l (Record a size) x
     ∙ ap (λ (s : Step). onto size (answered s) (playOf last n (s .outcome .device) (s .sectors) (drop size l))) g
-
--- ---- the rest of a recording
-
--- what the rest of the recording, lent as a part of it, starts with
-pub rest-starts : (l : List ℕ) (at : ℕ) (r x : Found) → r ≡ nextOf (take (length l - at) (drop at l)) → r ≡ x → nextOf (drop at l) ≡ x
-rest-starts l at r x e g =
-    let h : take (length l - at) (drop at l) ≡ drop at l = take-all (length l - at) (drop at l) (rw length-drop (omega arith)) in
-    sym (ap nextOf h) ∙ sym e ∙ g
-
--- a record lies within the rest
-pub rest-within : (l : List ℕ) (at : ℕ) (a : Action) (size : ℕ) → nextOf (drop at l) ≡ Record a size → size ≤ length l - at
-rest-within l at a size e = go (record-within (drop at l) a size e .1)
-  where
-    go : size ≤ length (drop at l) → size ≤ length l - at
-    go i = rw length-drop at i
 
 -- ---- the loop
 

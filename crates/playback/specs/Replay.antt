@@ -36,6 +36,10 @@ isOver Opening = false
 isOver Replaying = false
 isOver Over = true
 
+-- no whole record is there: the replay is over where no byte comes behind
+abbrev pub cutStage : Bool → Stage
+cutStage last = pick last Over Replaying
+
 -- what a part of a recording gives: the device and the sectors after it, how many of its bytes are used up, its reply, and where the replay stands
 pub record Play : Type 0 where
   pub device : Device
@@ -65,7 +69,7 @@ cutShort last d m = pick last (rests d m faultBytes Over) (rests d m [] Replayin
 unfoldable pub playAs : Bool → Device → List ℕ → List ℕ → (Device → List ℕ → List ℕ → Play) → Found → Play
 playAs last d m l rest (Record a size) =
     onto size (answered (stepOf d m a)) (rest (stepOf d m a .outcome .device) (stepOf d m a .sectors) (drop size l))
-playAs last d m l rest Nothing = rests d m [] (pick last Over Replaying)
+playAs last d m l rest Nothing = rests d m [] (cutStage last)
 playAs last d m l rest Part = cutShort last d m
 playAs last d m l rest Malformed = rests d m faultBytes Over
 

@@ -1,5 +1,5 @@
 -- The loop's start, its turn by the long way, and its ends.
-use Prim.Native.Nat.{ℕ, _+_, _-_, _*_, _/_, _≤_}
+use Prim.Native.Nat.{ℕ, _+_, _-_, _*_, _/_, _≤_, _<_}
 use mathlib.Core.Path.{_≡_, refl, sym, ap, _∙_}
 use mathlib.Core.Bool.{Bool, true, false}
 use mathlib.Core.List.{List, [], _++_, append-nil}
@@ -16,12 +16,17 @@ use Rattle.records.specs.Records.{nextOf}
 use Rattle.records.specs.Replies.{replyBytes, faultBytes}
 use Rattle.records.specs.declared.Found.the-variants.{Record, Nothing, Part, Malformed}
 use Rattle.records.proofs.Stores.{write-behind}
-use Rattle.playback.specs.Replay.{Play, rests, onto, cutShort, playAs, playOf}
-use Rattle.player.specs.Parts.{partOf, came, cameOf, Gives, cutStage, cutMade, cutReply}
-use Rattle.playback.specs.Loops.{Playing}
+use Rattle.loops.specs.Ways.{standAt, Way, wayAt}
+use Rattle.loops.specs.declared.Stand.{Stand}
+use Rattle.loops.proofs.Onward.{swift-fewer}
+use Rattle.playback.specs.Replay.{Play, rests, onto, cutStage, cutShort, playAs, playOf}
+use Rattle.player.specs.Parts.{partOf, came, cameOf, stretchWay, courseOf, Gives, cutMade, cutReply}
+use Rattle.playback.specs.Loops.{wholeOf, Playing}
 use Rattle.playback.specs.declared.Stage.{Stage}
 use Rattle.playback.specs.declared.Stage.the-variants.{Replaying, Over}
-use Rattle.playback.proofs.Playing.{play-next, playing-more}
+use Rattle.playback.proofs.Playing.{play-next, playing-more, playing-left}
+use Rattle.playback.proofs.Carrying.{swift-plays}
+use Rattle.player.specs.declared.Course.{Course}
 
 -- ---- the definition, where no record is taken
 
@@ -69,10 +74,27 @@ playing-after {d = d} {m = m} p a size x o m′ f g q out′ e =
     (ap (λ (i : Outcome). record { outcome = i; sectors = aloneOf d m a .sectors }) (sym f) ∙ ap (λ (i : List ℕ). record { outcome = o; sectors = i }) (sym g))
     q out′ e
 
--- the same device, said otherwise
-pub playing-as : {w : Play} {last : Bool} {l out₀ : List ℕ} {k n : ℕ} {d : Device} {m out : List ℕ} {at put : ℕ}
-    → Playing w last l out₀ k n d m out at put → (d′ : Device) → d′ ≡ d → Playing w last l out₀ k n d′ m out at put
-playing-as p d′ e = rw e p
+-- records that the hot part and the buffer settle
+pub playing-stretch : {w : Play} {last : Bool} {l out₀ : List ℕ} {k : ℕ} (n : ℕ) {d : Device} {m out : List ℕ} {at put : ℕ}
+    → Playing w last l out₀ k n d m out at put → 0 < n
+    → (r : Course) → r ≡ courseOf d (stretchWay d at put (n - 1) l out) → (out′ : List ℕ) → out′ ≡ stretchWay d at put (n - 1) l out .out
+    → Playing w last l out₀ k (r .left + 1) (r .device) m out′ (r .at) (r .put)
+playing-stretch n {d = d} p h r e out′ o =
+    rw (e, o) (swift-plays (n - 1) d _ (omega arith) (playing-left p ((n - 1) + 1) (omega arith)))
+
+-- after them no more replies fit than before
+pub stretch-less : (n : ℕ) (d : Device) (l out : List ℕ) (at put : ℕ) → 0 < n → (r : Course) → r ≡ courseOf d (stretchWay d at put (n - 1) l out) → r .left < n
+stretch-less n d l out at put h r e =
+    let g : stretchWay d at put (n - 1) l out .stand .left ≤ n - 1 = swift-fewer (n - 1) l (wayAt (standAt (d .face .hot) at put (n - 1)) (d .face .buffer) out) in
+    rw e (omega (arith, g, h))
+
+-- the device put together where they end
+pub stretched : (d : Device) (l out : List ℕ) (at put left : ℕ) (far : Stand) (b out′ : List ℕ) → wayAt far b out′ ≡ stretchWay d at put left l out
+    → (x : Device) → x ≡ wholeOf d (far .hot) b
+    → (_≡_ {A = Course} (record { device = x; at = far .at; put = far .put; left = far .left }) (courseOf d (stretchWay d at put left l out)))
+    × (out′ ≡ stretchWay d at put left l out .out)
+stretched d l out at put left far b out′ w x e =
+    (ap (λ (i : Device). record { device = i; at = far .at; put = far .put; left = far .left }) e ∙ ap (courseOf d) w, ap (λ (i : Way). i .out) w)
 
 -- ---- its ends
 

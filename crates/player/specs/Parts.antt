@@ -9,10 +9,12 @@ use Rattle.base.specs.Choice.{pick}
 use Rattle.device.specs.Host.{Ready}
 use Rattle.device.specs.declared.Device.{Device}
 use Rattle.records.specs.Replies.{faultBytes}
+use Rattle.loops.specs.Ways.{standAt, Way, wayAt, swiftOf}
 use Rattle.playback.specs.Replay.{Play, onto, playOf}
+use Rattle.playback.specs.Loops.{wholeOf}
 use Rattle.player.specs.declared.Came.{Came}
+use Rattle.player.specs.declared.Course.{Course}
 use Rattle.playback.specs.declared.Stage.{Stage}
-use Rattle.playback.specs.declared.Stage.the-variants.{Replaying, Over}
 
 -- the records from place `at` on, behind the reply's first `put` bytes
 abbrev pub partOf : Bool → Device → List ℕ → List ℕ → ℕ → List ℕ → ℕ → Play
@@ -26,6 +28,20 @@ came d stage taken made = record { device = d; stage = stage; taken = taken; mad
 abbrev pub cameOf : Play → Came
 cameOf p = came (p .device) (p .stage) (p .taken) (length (p .reply))
 
+-- the records from place `at` on that the hot part and the buffer settle
+abbrev pub stretchWay : Device → ℕ → ℕ → ℕ → List ℕ → List ℕ → Way
+stretchWay d at put left l out = swiftOf left l (wayAt (standAt (d .face .hot) at put left) (d .face .buffer) out)
+
+-- the device put together, and where that way came to
+abbrev pub courseOf : Device → Way → Course
+courseOf d w =
+    record {
+      device = wholeOf d (w .stand .hot) (w .buffer);
+      at = w .stand .at;
+      put = w .stand .put;
+      left = w .stand .left;
+    }
+
 -- the result, every sector and every byte of the lent reply are what the part gives, and the device is still in shape over its memory
 pub record Gives (p : Play) (r : Came) (m out₀ out : List ℕ) : Type 0 where
   pub result : r ≡ cameOf p
@@ -33,11 +49,7 @@ pub record Gives (p : Play) (r : Came) (m out₀ out : List ℕ) : Type 0 where
   pub reply : out ≡ p .reply ++ drop (length (p .reply)) out₀
   pub ready : Ready (r .device) m
 
--- a record that is cut short ends the replay where no byte comes any more
-abbrev pub cutStage : Bool → Stage
-cutStage last = pick last Over Replaying
-
--- and then adds the fault to the reply
+-- a record that is cut short where no byte comes any more adds the fault to the reply
 unfoldable pub cutMade : Bool → ℕ → ℕ
 cutMade last put = pick last (put + 3) put
 

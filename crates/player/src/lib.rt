@@ -1,15 +1,16 @@
-// The loop over a recording's records: each is one action of the device, which the loop holds in parts.
+// The loop over a recording's records: each is one action of the device.
 ghost use mathlib.Core.Path.{_≡_};
 ghost use Prim.Native.Nat.{_+_, _≤_};
 ghost use lib.ListN.{length};
 ghost use Rattle.device.specs.Host.{Ready};
+ghost use Rattle.loops.specs.Ways.{standAt, Stands};
+ghost use Rattle.playback.specs.Replay.{cutStage};
 ghost use Rattle.playback.specs.Loops.{wholeOf};
-ghost use Rattle.player.specs.Parts.{partOf, came, Gives, cutStage, cutMade, cutReply};
+ghost use Rattle.player.specs.Parts.{partOf, came, stretchWay, courseOf, Gives, cutMade, cutReply};
 use device::Device;
 use face::Face;
 use face::Hot;
 use playback::Stage;
-use playback::Stand;
 use records::Found;
 
 // How far a part of a recording came.
@@ -20,22 +21,21 @@ pub struct Came {
     pub made: usize,
 }
 
-// The device, of which the loop holds the hot part and the buffer apart.
+// Where the loop stands: the device, the next record's place, its reply's, and how many replies fit behind that one.
+pub struct Course {
+    pub device: Device,
+    pub at: usize,
+    pub put: usize,
+    pub left: usize,
+}
+
+// The device, of which the inner loops held the hot part and the buffer apart.
 fn whole(mut device: Device, hot: Hot, buffer: [u8; 512]) -> Device
     ensures { λ r. ⌜ r ≡ wholeOf device hot buffer ⌝ }
 {
     let face = device.face;
     device.face = face.with_buffer(buffer).with_hot(hot);
     device
-}
-
-fn ended(last: bool) -> Stage
-    ensures { λ r. ⌜ r ≡ cutStage last ⌝ }
-{
-    if last {
-        return Stage::Over;
-    }
-    Stage::Replaying
 }
 
 pub fn halt(device: Device, stage: Stage, taken: usize, made: usize) -> Came
@@ -61,40 +61,49 @@ fn cut(device: Device, last: bool, out: &mut [u8], at: usize, put: usize) -> Cam
     halt(device, Stage::Replaying, at, put)
 }
 
+// The records from there on that the hot part and the buffer settle.
+fn stretch(device: Device, at: usize, put: usize, left: usize, rec: &[u8], out: &mut [u8]) -> Course
+    requires { ⌜ Stands (now rec) (now out) (standAt (device .face .hot) at put left) ⌝ }
+    ensures { λ r. ⌜ (r ≡ courseOf device (stretchWay device at put left (now (rec .entry)) (now (out .entry)))) × (now (out .exit) ≡ stretchWay device at put left (now (rec .entry)) (now (out .entry)) .out) ⌝ }
+{
+    let face = device.face;
+    let mut buffer = face.buffer;
+    let here = loops::standing(face.hot, at, put, left);
+    let far = loops::swift(here, &mut buffer, rec, out);
+    Course {
+        device: whole(device, far.hot, buffer),
+        at: far.at,
+        put: far.put,
+        left: far.left,
+    }
+}
 // Replays whole records from where it came on, until the reply is full or the bytes are used up.
 pub fn play(from: Came, sectors: &mut [u8], rec: &[u8], last: bool, out: &mut [u8]) -> Came
     requires { ⌜ Ready (from .device) (now sectors) × ((from .taken ≤ length (now rec)) × (from .made ≤ length (now out))) ⌝ }
     ensures { λ r. ⌜ Gives (partOf last (from .device) (now (sectors .entry)) (now (rec .entry)) (from .taken) (now (out .entry)) (from .made)) r (now (sectors .exit)) (now (out .entry)) (now (out .exit)) ⌝ }
 {
     let mut device = from.device;
-    let face = device.face;
-    let mut hot = face.hot;
-    let mut buffer = face.buffer;
     let mut at = from.taken;
     let mut put = from.made;
     let mut left = (out.len() - put) / 5;
     while 0 < left {
-        let here = playback::standing(hot, at, put, left - 1);
-        let far = playback::swift(here, &mut buffer, rec, out);
-        hot = far.hot;
+        let far = stretch(device, at, put, left - 1, rec, out);
+        device = far.device;
         at = far.at;
         put = far.put;
         left = far.left;
         match records::next(&rec[at..]) {
             Found::Record(action, size) => {
-                let outcome = whole(device, hot, buffer).act(action, sectors);
+                let outcome = device.act(action, sectors);
                 device = outcome.device;
-                let face = device.face;
-                hot = face.hot;
-                buffer = face.buffer;
                 records::reply(out, put, outcome.number, outcome.value);
                 put = put + 5;
                 at = at + size;
             }
-            Found::Nothing => return halt(whole(device, hot, buffer), ended(last), at, put),
-            Found::Part => return cut(whole(device, hot, buffer), last, out, at, put),
-            Found::Malformed => return cut(whole(device, hot, buffer), true, out, at, put),
+            Found::Nothing => return halt(device, Stage::ended(last), at, put),
+            Found::Part => return cut(device, last, out, at, put),
+            Found::Malformed => return cut(device, true, out, at, put),
         }
     }
-    halt(whole(device, hot, buffer), Stage::Replaying, at, put)
+    halt(device, Stage::Replaying, at, put)
 }

@@ -5,15 +5,14 @@ ghost use Prim.Native.Nat.{_≤_};
 ghost use lib.ListN.{length, take, drop};
 ghost use lib.Seq.{sets};
 ghost use Rattle.device.specs.Host.{Ready};
-ghost use Rattle.playback.specs.Replay.{spaces, versionFault};
-ghost use Rattle.player.specs.Parts.{Gives};
-ghost use Rattle.recording.specs.Turns.{startOf, turnAs, leastOf, takenOf, awayOf, turnOf, Leaves, wholePlay, replayedOf};
+ghost use Rattle.playback.specs.Replay.{versionFault};
+ghost use Rattle.player.specs.Parts.{came, Gives};
+ghost use Rattle.recording.specs.Turns.{startOf, openedOf, turnAs, leastOf, takenOf, awayOf, turnOf, Leaves, wholePlay, replayedOf};
 use device::Device;
 use face::Answer;
 use geometry::Geometry;
 use playback::Stage;
 use player::Came;
-use settled::Identity;
 
 // A replay between two turns.
 pub struct Stream {
@@ -37,12 +36,23 @@ pub struct Replayed {
 }
 
 // A recording without its version byte.
-fn version_fault(out: &mut [u8])
+fn version_fault(device: Device, out: &mut [u8]) -> Came
     requires { ⌜ 4 ≤ length (now out) ⌝ }
-    ensures { λ _. ⌜ now (out .exit) ≡ sets (now (out .entry)) 0 versionFault ⌝ }
+    ensures { λ r. ⌜ (r ≡ came device Stage.Over 0 4) × (now (out .exit) ≡ sets (now (out .entry)) 0 versionFault) ⌝ }
 {
     out[0] = 1;
     records::fault(out, 1);
+    player::halt(device, Stage::Over, 0, 4)
+}
+
+// The records behind the version byte.
+fn opened(device: Device, sectors: &mut [u8], rec: &[u8], last: bool, out: &mut [u8]) -> Came
+    requires { ⌜ Ready device (now sectors) × ((1 ≤ length (now rec)) × (1 ≤ length (now out))) ⌝ }
+    ensures { λ r. ⌜ Gives (openedOf last (length (now (out .entry))) device (now (sectors .entry)) (now (rec .entry))) r (now (sectors .exit)) (now (out .entry)) (now (out .exit)) ⌝ }
+{
+    out[0] = 1;
+    let behind = player::halt(device, Stage::Replaying, 1, 1);
+    player::play(behind, sectors, rec, last, out)
 }
 
 // The version byte, where there is one, and the records behind it.
@@ -55,19 +65,15 @@ fn begin(device: Device, sectors: &mut [u8], rec: &[u8], last: bool, out: &mut [
     }
     if rec.len() < 1 {
         if last {
-            version_fault(out);
-            return player::halt(device, Stage::Over, 0, 4);
+            return version_fault(device, out);
         }
         return player::halt(device, Stage::Opening, 0, 0);
     }
     let version = rec[0];
     if version == 1 {
-        out[0] = 1;
-        let opened = player::halt(device, Stage::Replaying, 1, 1);
-        return player::play(opened, sectors, rec, last, out);
+        return opened(device, sectors, rec, last, out);
     }
-    version_fault(out);
-    player::halt(device, Stage::Over, 0, 4)
+    version_fault(device, out)
 }
 
 // How far the bytes bring a replay that stands there.
@@ -115,30 +121,13 @@ fn least(held: usize, size: usize) -> usize
     held
 }
 
-fn spaces() -> Identity
-    ensures { λ r. ⌜ r ≡ spaces ⌝ }
-{
-    let serial = [0x20u8; 20];
-    let firmware = [0x20u8; 8];
-    let model = [0x20u8; 40];
-    Identity {
-        serial,
-        firmware,
-        model,
-    }
-}
-
 impl Stream {
     // A replay before its first byte.
     pub fn start() -> Stream
         ensures { λ r. ⌜ r ≡ startOf ⌝ }
     {
-        let identity = spaces();
-        let master = lock::no_password();
-        let outcome = Device::setup(4, 2, 8, identity, master);
-        let device = outcome.device;
         Stream {
-            device,
+            device: playback::replay_device(),
             stage: Stage::Opening,
         }
     }

@@ -1,2 +1,3 @@
 pub mod Identity
 pub mod Settled
+pub mod Setup

@@ -2,8 +2,10 @@
 ghost use mathlib.Core.Path.{_≡_};
 ghost use Rattle.settled.specs.Identity.{plain, printable, identityFits};
 ghost use Rattle.settled.specs.Settled.{withTranslation, withSecurity, settledFits, settledPoweredOn, settledReset};
+ghost use Rattle.settled.specs.Setup.{zeroIdentity, zeroSecurity, zeroSettled, freshSettled};
 use geometry::Geometry;
 use geometry::Translation;
+use lock::Lock;
 use lock::Security;
 
 // What IDENTIFY tells of the disk by name.
@@ -113,4 +115,57 @@ impl Settled {
         self.with_translation(geometry.factory())
             .with_security(security.unprepare())
     }
+}
+
+fn zero_identity() -> Identity
+    ensures { λ r. ⌜ r ≡ zeroIdentity ⌝ }
+{
+    let serial = [0u8; 20];
+    let firmware = [0u8; 8];
+    let model = [0u8; 40];
+    Identity {
+        serial,
+        firmware,
+        model,
+    }
+}
+
+// The security settings of a new disk: none.
+fn zero_security() -> Security
+    ensures { λ r. ⌜ r ≡ zeroSecurity ⌝ }
+{
+    Security {
+        lock: Lock::Open,
+        enabled: false,
+        maximum: false,
+        attempts: 0,
+        prepared: false,
+    }
+}
+
+// The settled part of a new disk, before its power-on.
+pub fn fresh(geometry: Geometry, identity: Identity) -> Settled
+    ensures { λ r. ⌜ r ≡ freshSettled geometry identity ⌝ }
+{
+    let translation = geometry.factory();
+    let security = zero_security();
+    Settled {
+        geometry,
+        translation,
+        identity,
+        security,
+    }
+}
+
+// The settled part of a record all zero.
+pub fn zero_settled() -> Settled
+    ensures { λ r. ⌜ r ≡ zeroSettled ⌝ }
+{
+    let geometry = Geometry {
+        cylinders: 0,
+        heads: 0,
+        sectors: 0,
+    };
+    let identity = zero_identity();
+    fresh(geometry, identity)
 }

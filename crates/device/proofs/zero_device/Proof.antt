@@ -9,12 +9,12 @@ zero-face-requires c κs = search needs
 no-password-requires : tie.Need-no-password-requires
 no-password-requires c κs = search needs
 
-no-password-requires-2 : tie.Need-no-password-requires-2
-no-password-requires-2 c κs = search needs
+fresh-requires : tie.Need-fresh-requires
+fresh-requires c κs = search needs
 
 returns : tie.Need-returns
-returns c = simp (c .no-password2 .ensures, c .before .no-password .ensures, c .before .before .zero-face .ensures)
+returns c = simp (c .fresh .ensures, c .before .no-password .ensures, c .before .before .zero-face .ensures)
 
 pub zero-device-spec : {M : Type 1} → statement M
 zero-device-spec =
-    tie.close (tie.spec zero-face-requires no-password-requires no-password-requires-2 returns)
+    tie.close (tie.spec zero-face-requires no-password-requires fresh-requires returns)

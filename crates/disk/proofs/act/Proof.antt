@@ -8,11 +8,8 @@ use Rattle.disk.proofs.act.Tie as tie
 enum-known-action : tie.Need-enum-known-action
 enum-known-action c = search needs
 
-read-register-requires : tie.Need-read-register-requires
-read-register-requires c κs = search needs
-
-seen-acts-requires : tie.Need-seen-acts-requires
-seen-acts-requires c κs = search needs
+register-read-requires : tie.Need-register-read-requires
+register-read-requires c κs = search needs
 
 enum-known-action-2 : tie.Need-enum-known-action-2
 enum-known-action-2 c = search needs
@@ -41,33 +38,30 @@ write-word-requires c κs = search needs
 enum-told-2 : tie.Need-enum-told-2
 enum-told-2 c = search needs
 
-power-on-requires : tie.Need-power-on-requires
-power-on-requires c κs = search needs
+powered-on-requires : tie.Need-powered-on-requires
+powered-on-requires c κs = search needs
 
-acts-requires : tie.Need-acts-requires
-acts-requires c κs = search needs
+done-requires : tie.Need-done-requires
+done-requires c κs = search needs
 
 enum-told-3 : tie.Need-enum-told-3
 enum-told-3 c = search needs
 
-power-on-requires-2 : tie.Need-power-on-requires-2
-power-on-requires-2 c κs = search needs
+powered-on-requires-2 : tie.Need-powered-on-requires-2
+powered-on-requires-2 c κs = search needs
 
-acts-requires-2 : tie.Need-acts-requires-2
-acts-requires-2 c κs = search needs
+done-requires-2 : tie.Need-done-requires-2
+done-requires-2 c κs = search needs
 
 enum-told-4 : tie.Need-enum-told-4
 enum-told-4 c = search needs
 
-line-requires : tie.Need-line-requires
-line-requires c κs = search needs
-
-acts-requires-3 : tie.Need-acts-requires-3
-acts-requires-3 c κs = search needs
+line-read-requires : tie.Need-line-read-requires
+line-read-requires c κs = search needs
 
 returns : tie.Need-returns
 unfolding actOf
-returns c = simp (c .seen-acts .ensures, c .before .read-register .ensures, c .before .before .before .action .given .1) (refl, refl)
+returns c = simp (c .register-read .ensures, c .before .before .action .given .1) (refl, refl)
 
 same-length : tie.Need-same-length
 same-length c = search needs
@@ -92,23 +86,22 @@ returns-4 c = simp (c .before .before .write-word .ensures .0, c .before .before
 
 returns-5 : tie.Need-returns-5
 unfolding actOf
-returns-5 c = simp (c .acts .ensures, c .before .power-on .ensures, c .before .before .enum-told2 .given .1) (refl, refl)
+returns-5 c = simp (c .done .ensures, c .before .powered-on .ensures, c .before .before .enum-told2 .given .1) (refl, refl)
 
 returns-6 : tie.Need-returns-6
 unfolding actOf
-returns-6 c = simp (c .acts2 .ensures, c .before .power-on2 .ensures, c .before .before .enum-told3 .given .1) (refl, refl)
+returns-6 c = simp (c .done2 .ensures, c .before .powered-on2 .ensures, c .before .before .enum-told3 .given .1) (refl, refl)
 
 returns-7 : tie.Need-returns-7
 unfolding actOf
-returns-7 c = simp (c .acts3 .ensures, ← c .before .line .ensures, c .before .before .enum-told4 .given .1) (refl, refl)
+returns-7 c = simp (c .line-read .ensures, c .before .enum-told4 .given .1) (refl, refl)
 
 pub act-spec : {M : Type 1} → statement M
 act-spec =
     tie.close
     (tie.spec
     enum-known-action
-    read-register-requires
-    seen-acts-requires
+    register-read-requires
     enum-known-action-2
     write-register-requires
     told-acts-requires
@@ -118,14 +111,13 @@ act-spec =
     enum-known-action-3
     write-word-requires
     enum-told-2
-    power-on-requires
-    acts-requires
+    powered-on-requires
+    done-requires
     enum-told-3
-    power-on-requires-2
-    acts-requires-2
+    powered-on-requires-2
+    done-requires-2
     enum-told-4
-    line-requires
-    acts-requires-3
+    line-read-requires
     returns
     same-length
     returns-2

@@ -1,10 +1,8 @@
 -- The version byte decides, where there is one.
-use Rattle.recording.proofs.Opening.{gives-fault, gives-open, gives-rests}
+use Rattle.recording.proofs.Opening.{gives-fault, gives-rests}
 use Rattle.recording.specs.Turns.{openOf, turnAs}
 use borrow.Author.Needs.{needs}
 use borrow.Author.Tests.{eq-eqb, le-leb, le-ltb, lt-ltb, ne-eqb}
-use lib.ListN.{length-set}
-use mathlib.Core.Path.{_∙_}
 use native.Mathlib.Omega.{arith}
 use Rattle.recording.proofs.begin.Statement.{statement}
 use Rattle.recording.proofs.begin.Tie as tie
@@ -19,58 +17,45 @@ returns c = simp (c .halt .ensures, lt-ltb _ _ (c .before .if1 .taken)) (gives-r
 version-fault-requires : tie.Need-version-fault-requires
 version-fault-requires c κs = search needs
 
-halt-requires-2 : tie.Need-halt-requires-2
-halt-requires-2 c κs = search needs
-
 same-length : tie.Need-same-length
 same-length c = search needs
 
 returns-2 : tie.Need-returns-2
 unfolding turnAs openOf
-returns-2 c = simp (c .halt2 .ensures, c .before .before .before .version-fault .ensures, c .before .before .before .before .before .if3 .taken, lt-ltb _ _ (c .before .before .before .before .before .before .if2 .taken), le-ltb _ _ (c .before .before .before .before .before .before .before .if1 .left)) (gives-fault _ _ _ (c .before .before .before .before .before .before .before .before .before .before .before .pre) (omega arith))
+returns-2 c = simp (c .before .before .version-fault .ensures .0, c .before .before .version-fault .ensures .1, c .before .before .before .before .if3 .taken, lt-ltb _ _ (c .before .before .before .before .before .if2 .taken), le-ltb _ _ (c .before .before .before .before .before .before .if1 .left)) (gives-fault _ _ _ (c .before .before .before .before .before .before .before .before .before .before .pre) (omega arith))
 
-halt-requires-3 : tie.Need-halt-requires-3
-halt-requires-3 c κs = search needs
+halt-requires-2 : tie.Need-halt-requires-2
+halt-requires-2 c κs = search needs
 
 returns-3 : tie.Need-returns-3
 unfolding turnAs openOf
-returns-3 c = simp (c .halt3 .ensures, c .before .if3 .left, lt-ltb _ _ (c .before .before .if2 .taken), le-ltb _ _ (c .before .before .before .if1 .left)) (gives-rests _ _ _ _ (c .before .before .before .before .before .before .before .pre))
+returns-3 c = simp (c .halt2 .ensures, c .before .if3 .left, lt-ltb _ _ (c .before .before .if2 .taken), le-ltb _ _ (c .before .before .before .if1 .left)) (gives-rests _ _ _ _ (c .before .before .before .before .before .before .before .pre))
 
 shared-slice-read-version : tie.Need-shared-slice-read-version
 shared-slice-read-version c = search needs
 
-slice-write-out : tie.Need-slice-write-out
-slice-write-out c = search needs
-
-halt-requires-4 : tie.Need-halt-requires-4
-halt-requires-4 c κs = search needs
-
-play-requires : tie.Need-play-requires
-play-requires c κs = rw (c .before .before .halt4 .ensures) (c .before .before .before .before .before .before .before .before .before .before .pre, (omega arith, simp length-set (omega arith)))
+opened-requires : tie.Need-opened-requires
+opened-requires c κs = (c .before .before .before .before .before .before .before .before .before .pre, (omega arith, omega arith))
 
 same-length-2 : tie.Need-same-length-2
 same-length-2 c = search needs
 
 same-length-3 : tie.Need-same-length-3
-same-length-3 c = c .before .out2 .given ∙ length-set (c .before .before .before .before .before .before .before .before .before .before .before .before .before .before .before .args .out .now) 0 1
+same-length-3 c = search needs
 
 returns-4 : tie.Need-returns-4
 unfolding turnAs openOf
-returns-4 c = simp (le-ltb _ _ (c .before .before .before .before .before .before .before .before .before .before .before .if1 .left), le-ltb _ _ (c .before .before .before .before .before .before .before .before .before .before .if2 .left), eq-eqb _ _ (c .before .before .before .before .before .before .before .before .if4 .taken))
-    (gives-open _ _ _ (c .before .before .before .before .before .before .before .before .before .before .before .before .before .before .before .args .rec .now) (c .before .before .before .before .before .before .before .before .before .before .before .before .before .before .before .args .out .now) _ _ _ (omega arith) (rw (c .before .before .before .before .before .before .before .halt4 .ensures) at (c .before .before .before .before .play .ensures)))
+returns-4 c = simp (le-ltb _ _ (c .before .before .before .before .before .before .before .before .before .before .if1 .left), le-ltb _ _ (c .before .before .before .before .before .before .before .before .before .if2 .left), eq-eqb _ _ (c .before .before .before .before .before .before .before .if4 .taken)) (c .before .before .before .before .opened .ensures)
 
 version-fault-requires-2 : tie.Need-version-fault-requires-2
 version-fault-requires-2 c κs = search needs
-
-halt-requires-5 : tie.Need-halt-requires-5
-halt-requires-5 c κs = search needs
 
 same-length-4 : tie.Need-same-length-4
 same-length-4 c = search needs
 
 returns-5 : tie.Need-returns-5
 unfolding turnAs openOf
-returns-5 c = simp (c .halt5 .ensures, c .before .before .before .version-fault2 .ensures, ne-eqb _ _ (c .before .before .before .before .before .if4 .left), le-leb _ _ (c .before .before .before .before .before .before .before .if2 .left), le-ltb _ _ (c .before .before .before .before .before .before .before .if2 .left), le-leb _ _ (c .before .before .before .before .before .before .before .before .if1 .left), le-ltb _ _ (c .before .before .before .before .before .before .before .before .if1 .left)) (gives-fault _ _ _ (c .before .before .before .before .before .before .before .before .before .before .before .before .pre) (omega arith))
+returns-5 c = simp (c .before .before .version-fault2 .ensures .0, c .before .before .version-fault2 .ensures .1, ne-eqb _ _ (c .before .before .before .before .if4 .left), le-leb _ _ (c .before .before .before .before .before .before .if2 .left), le-ltb _ _ (c .before .before .before .before .before .before .if2 .left), le-leb _ _ (c .before .before .before .before .before .before .before .if1 .left), le-ltb _ _ (c .before .before .before .before .before .before .before .if1 .left)) (gives-fault _ _ _ (c .before .before .before .before .before .before .before .before .before .before .before .pre) (omega arith))
 
 pub begin-spec : {M : Type 1} → statement M
 begin-spec =
@@ -79,19 +64,15 @@ begin-spec =
     halt-requires
     returns
     version-fault-requires
-    halt-requires-2
     same-length
     returns-2
-    halt-requires-3
+    halt-requires-2
     returns-3
     shared-slice-read-version
-    slice-write-out
-    halt-requires-4
-    play-requires
+    opened-requires
     same-length-2
     same-length-3
     returns-4
     version-fault-requires-2
-    halt-requires-5
     same-length-4
     returns-5)

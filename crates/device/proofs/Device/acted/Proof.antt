@@ -7,14 +7,14 @@ use Rattle.device.proofs.Device.acted.Tie as tie
 act-requires : tie.Need-act-requires
 act-requires c κs = search needs
 
-shows-requires : tie.Need-shows-requires
-shows-requires c κs = search needs
+told-requires : tie.Need-told-requires
+told-requires c κs = search needs
 
 same-length : tie.Need-same-length
 same-length c = search needs
 
 returns : tie.Need-returns
-returns c = simp (c .shows .ensures, c .before .before .before .before .before .act .ensures .0, c .before .before .before .before .before .act .ensures .1) (refl, refl)
+returns c = simp (c .told .ensures, c .before .before .before .act .ensures .0, c .before .before .before .act .ensures .1) (refl, refl)
 
 pub acted-spec : {M : Type 1} → statement M
-acted-spec = tie.close (tie.spec act-requires shows-requires same-length returns)
+acted-spec = tie.close (tie.spec act-requires told-requires same-length returns)

@@ -1,19 +1,13 @@
--- Setup of the replay's device.
+-- The replay's disk, before its first byte.
 use borrow.Author.Needs.{needs}
 use Rattle.recording.proofs.Stream.start.Statement.{statement}
 use Rattle.recording.proofs.Stream.start.Tie as tie
 
-spaces-requires : tie.Need-spaces-requires
-spaces-requires c κs = search needs
-
-no-password-requires : tie.Need-no-password-requires
-no-password-requires c κs = search needs
-
-setup-requires : tie.Need-setup-requires
-setup-requires c κs = search needs
+replay-device-requires : tie.Need-replay-device-requires
+replay-device-requires c κs = search needs
 
 returns : tie.Need-returns
-returns c = simp (c .before .setup .ensures, c .before .before .no-password .ensures, c .before .before .before .spaces .ensures)
+returns c = simp (c .replay-device .ensures)
 
 pub start-spec : {M : Type 1} → statement M
-start-spec = tie.close (tie.spec spaces-requires no-password-requires setup-requires returns)
+start-spec = tie.close (tie.spec replay-device-requires returns)
