@@ -23,6 +23,11 @@ pub pick-each {ℓ k} : {A : Type ℓ} (P : A → Type k) (b : Bool) (x y : A) �
 pick-each P true x y p q = p refl
 pick-each P false x y p q = q refl
 
+-- whatever a test says
+pub either-way {ℓ} : {A : Type ℓ} (b : Bool) → (b ≡ true → A) → (b ≡ false → A) → A
+either-way true p q = p refl
+either-way false p q = q refl
+
 -- a test that a call answered
 pub told-true : (b r : Bool) → r ≡ b → r ≡ true → b ≡ true
 told-true b r e h = sym e ∙ h

@@ -1,7 +1,6 @@
 -- A stored sector is read back, every byte outside it is as it was, and zeroed memory holds zero sectors.
 use Prim.Native.Nat.{ℕ, _+_, _-_, _*_, _≤_, _<_}
-use mathlib.Core.Path.{_≡_, refl, sym, ap, _∙_}
-use mathlib.Core.Bool.{Bool, true, false}
+use mathlib.Core.Path.{_≡_, sym, ap, _∙_}
 use mathlib.Core.Logic.{_⊎_, inl, inr}
 use mathlib.Core.List.{List, _++_, append-assoc}
 use native.Mathlib.Omega.{arith}
@@ -9,6 +8,7 @@ use borrow.Author.Tests.{ltb-true, ltb-false}
 use lib.Dec.{ltb}
 use lib.ListN.{length, getD, take, drop, replicate, length-take, length-drop, length-replicate, replicate-append-replicate, List·getD-append}
 use lib.Seq.{paste, length-paste, length-take-le, take-all, take-at, drop-at, getD-take, getD-drop, getD-append-add, ext-getD, length-paste-head}
+use Rattle.base.proofs.Tests.{either-way}
 use Rattle.block.specs.Sectors.{zeroBlock, sectorAt, storedAt, zeroed}
 
 -- the memory has a sector n, and b is a block
@@ -61,11 +61,10 @@ stored-other {s} {n} {b} r m apart =
     long = simp (length-take, length-drop, stored-length r)
 
     side : (i : ℕ) → i < 512 → (512 * m + i < 512 * n) ⊎ (512 * n + 512 ≤ 512 * m + i)
-    side i l = go (ltb m n) refl
-      where
-        go : (b : Bool) → ltb m n ≡ b → (512 * m + i < 512 * n) ⊎ (512 * n + 512 ≤ 512 * m + i)
-        go true e = let p = ltb-true m n e in inl (omega arith)
-        go false e = let p = ltb-false m n e in inr (omega arith)
+    side i l =
+        either-way (ltb m n)
+        (λ e. let p = ltb-true m n e in inl (omega arith))
+        (λ e. let p = ltb-false m n e in inr (omega arith))
 
     byte : (i : ℕ) → i < length (take 512 (drop (512 * m) (storedAt s n b)))
         → getD (take 512 (drop (512 * m) (storedAt s n b))) i 0 ≡ getD (take 512 (drop (512 * m) s)) i 0

@@ -1,8 +1,8 @@
 -- The fast path of a device alone on its cable is its action, DEV set or not.
-use mathlib.Core.Bool.{Bool, true, false}
 use mathlib.Core.Path.{_≡_, refl, sym, ap, _∙_}
 use mathlib.Core.List.{List}
 use Prim.Native.Nat.{ℕ}
+use Rattle.base.proofs.Tests.{either-way}
 use Rattle.face.specs.declared.Seen.{Seen}
 use Rattle.face.specs.declared.Action.{Action}
 use Rattle.face.specs.declared.Quick.{Quick}
@@ -29,12 +29,10 @@ step-then d m b Slow a = refl
 pub quick-step : (d : Device) (m : List ℕ) (a : Action)
     → aloneOf d m a ≡ quickStep d m (quickAloneBuffer (d .face .hot) (d .face .buffer) a) (quickAlone (d .face .hot) (d .face .buffer) a) (aloneOf d m a)
 unfolding aloneOf quickAlone quickAloneBuffer
-quick-step d m a = go (ignoredOf (d .face .hot) a) refl
-  where
-    go : (b : Bool) → ignoredOf (d .face .hot) a ≡ b
-        → aloneOf d m a ≡ quickStep d m (quickAloneBuffer (d .face .hot) (d .face .buffer) a) (quickAlone (d .face .hot) (d .face .buffer) a) (aloneOf d m a)
-    go true e = simp e
-    go false e = simp e (ap stepAs (quick-act (d .face) (d .secrets) m a) ∙ step-then d m (quickBuffer (d .face .hot) (d .face .buffer) a) (quickOf (d .face .hot) (d .face .buffer) a) a)
+quick-step d m a =
+    either-way (ignoredOf (d .face .hot) a)
+    (λ e. simp e)
+    (λ e. simp e (ap stepAs (quick-act (d .face) (d .secrets) m a) ∙ step-then d m (quickBuffer (d .face .hot) (d .face .buffer) a) (quickOf (d .face .hot) (d .face .buffer) a) a))
 
 -- the step where the fast path settles it
 pub quick-settles : (d : Device) (m : List ℕ) (a : Action) (b : List ℕ) (s : Seen)

@@ -1,10 +1,10 @@
 -- The fast path is the action: whatever the hot part and the buffer settle, the word-by-word definition gives, for every disk and action.
-use mathlib.Core.Bool.{Bool, true, false}
 use mathlib.Core.Path.{_≡_, refl}
 use mathlib.Core.List.{List}
 use Prim.Native.Nat.{ℕ}
 use lib.Dec.{ltb}
 use Rattle.base.specs.Choice.{within}
+use Rattle.base.proofs.Tests.{either-way}
 use Rattle.lock.specs.declared.Secrets.{Secrets}
 use Rattle.fastpath.specs.Quick.{quickReadOf, quickWriteOf, quickWriteBuffer, quickPutOf, quickOf, quickBuffer}
 use Rattle.face.specs.declared.Face.{Face}
@@ -28,19 +28,11 @@ ReadQuickly f x m t =
 
 quick-reading : (f : Face) (x : Secrets) (m : List ℕ) (r : Run) → ReadQuickly f x m (Reading r)
 unfolding quickReadOf readRunOf
-quick-reading f x m r = go (ltb (r .word) 255) refl
-  where
-    go : (b : Bool) → ltb (r .word) 255 ≡ b → ReadQuickly f x m (Reading r)
-    go true e = simp e
-    go false e = simp e
+quick-reading f x m r = either-way (ltb (r .word) 255) (λ e. simp e) (λ e. simp e)
 
 quick-reading-buffer : (f : Face) (x : Secrets) (m : List ℕ) (n : ℕ) → ReadQuickly f x m (ReadingBuffer n)
 unfolding quickReadOf readBufferWord
-quick-reading-buffer f x m n = go (ltb n 255) refl
-  where
-    go : (b : Bool) → ltb n 255 ≡ b → ReadQuickly f x m (ReadingBuffer n)
-    go true e = simp e
-    go false e = simp e
+quick-reading-buffer f x m n = either-way (ltb n 255) (λ e. simp e) (λ e. simp e)
 
 quick-read : (f : Face) (x : Secrets) (m : List ℕ) (t : Transfer) → ReadQuickly f x m t
 unfolding quickReadOf
@@ -59,19 +51,11 @@ WrittenQuickly f x m w t =
 
 quick-writing : (f : Face) (x : Secrets) (m : List ℕ) (w : ℕ) (r : Run) → WrittenQuickly f x m w (Writing r)
 unfolding quickWriteOf quickWriteBuffer writeRunOf writeRunSectors
-quick-writing f x m w r = go (ltb (r .word) 255) refl
-  where
-    go : (b : Bool) → ltb (r .word) 255 ≡ b → WrittenQuickly f x m w (Writing r)
-    go true e = simp e
-    go false e = simp e
+quick-writing f x m w r = either-way (ltb (r .word) 255) (λ e. simp e) (λ e. simp e)
 
 quick-writing-buffer : (f : Face) (x : Secrets) (m : List ℕ) (w n : ℕ) → WrittenQuickly f x m w (WritingBuffer n)
 unfolding quickWriteOf quickWriteBuffer writeBufferWord
-quick-writing-buffer f x m w n = go (ltb n 255) refl
-  where
-    go : (b : Bool) → ltb n 255 ≡ b → WrittenQuickly f x m w (WritingBuffer n)
-    go true e = simp e
-    go false e = simp e
+quick-writing-buffer f x m w n = either-way (ltb n 255) (λ e. simp e) (λ e. simp e)
 
 quick-write : (f : Face) (x : Secrets) (m : List ℕ) (w : ℕ) (t : Transfer) → WrittenQuickly f x m w t
 unfolding quickWriteOf quickWriteBuffer
@@ -90,11 +74,7 @@ PutQuickly f x m n v =
 
 quick-put : (f : Face) (x : Secrets) (m : List ℕ) (n v : ℕ) → PutQuickly f x m n v
 unfolding quickPutOf writeRegisterOf
-quick-put f x m n v = go (within 1 6 n) refl
-  where
-    go : (b : Bool) → within 1 6 n ≡ b → PutQuickly f x m n v
-    go true e = simp e
-    go false e = simp e
+quick-put f x m n v = either-way (within 1 6 n) (λ e. simp e) (λ e. simp e)
 
 -- with no hypothesis at all
 pub quick-act : (f : Face) (x : Secrets) (m : List ℕ) (a : Action)

@@ -18,21 +18,21 @@ placeOf (WritingBuffer n) = n
 placeOf (TakingPassword b) = b .word
 
 -- a sector transfer whose next word is this one
-abbrev pub runAt : Run → ℕ → Run
-runAt r word = record { at = r .at; after = r .after; word = word }
+abbrev pub runPlacedAt : Run → ℕ → Run
+runPlacedAt r word = record { at = r .at; after = r .after; word = word }
 
 -- a password block whose next word is this one
-abbrev pub blockAt : PasswordBlock → ℕ → PasswordBlock
-blockAt b word = record { purpose = b .purpose; word = word }
+abbrev pub blockPlacedAt : PasswordBlock → ℕ → PasswordBlock
+blockPlacedAt b word = record { purpose = b .purpose; word = word }
 
 -- the transfer whose next word is this one
 abbrev pub placedAt : Transfer → ℕ → Transfer
 placedAt Idle word = Idle
-placedAt (Reading r) word = Reading (runAt r word)
-placedAt (Writing r) word = Writing (runAt r word)
+placedAt (Reading r) word = Reading (runPlacedAt r word)
+placedAt (Writing r) word = Writing (runPlacedAt r word)
 placedAt (ReadingBuffer n) word = ReadingBuffer word
 placedAt (WritingBuffer n) word = WritingBuffer word
-placedAt (TakingPassword b) word = TakingPassword (blockAt b word)
+placedAt (TakingPassword b) word = TakingPassword (blockPlacedAt b word)
 
 -- the hot part with the interrupt raised or not
 abbrev pub withInterrupt : Hot → Bool → Hot

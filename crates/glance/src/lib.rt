@@ -1,7 +1,7 @@
 // Actions that move nothing of the hot part but the place of the next word and the interrupt: the replay's inner loop holds these two apart.
 ghost use mathlib.Core.Path.{_≡_};
 ghost use Rattle.face.specs.Reads.{lineOf};
-ghost use Rattle.glance.specs.Places.{placeOf, runAt, blockAt, placedAt, withInterrupt, hotAt};
+ghost use Rattle.glance.specs.Places.{placeOf, runPlacedAt, blockPlacedAt, placedAt, withInterrupt, hotAt};
 ghost use Rattle.glance.specs.Glances.{handsOut, takesIn, readGlance, writeGlance, writeGlanceBuffer, statusGlance, registerGlance, glanceOf, glanceBuffer};
 use face::Action;
 use face::Hot;
@@ -31,14 +31,14 @@ pub fn place_of(hot: Hot) -> u8
 }
 
 fn run_at(mut run: Run, word: u8) -> Run
-    ensures { λ r. ⌜ r ≡ runAt run word ⌝ }
+    ensures { λ r. ⌜ r ≡ runPlacedAt run word ⌝ }
 {
     run.word = word;
     run
 }
 
 fn block_at(mut block: PasswordBlock, word: u8) -> PasswordBlock
-    ensures { λ r. ⌜ r ≡ blockAt block word ⌝ }
+    ensures { λ r. ⌜ r ≡ blockPlacedAt block word ⌝ }
 {
     block.word = word;
     block

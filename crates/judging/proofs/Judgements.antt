@@ -1,12 +1,12 @@
 -- A password block leaves security settings in shape where they were so.
 use mathlib.Core.Bool.{Bool, true, false}
-use mathlib.Core.Path.{_≡_, refl}
+use mathlib.Core.Path.{refl}
 use mathlib.Core.List.{List}
 use Prim.Native.Nat.{ℕ, _≤_}
 use native.Mathlib.Omega.{arith}
 use lib.Dec.{ltb}
 use Rattle.base.specs.Choice.{pick}
-use Rattle.base.proofs.Tests.{false≢true}
+use Rattle.base.proofs.Tests.{false≢true, either-way}
 use Rattle.lock.specs.Lock.{isLocked}
 use Rattle.judging.specs.Judging.{openedOf, mismatchedOf, setOf, masterAtMaximum, unlockLocked, unlockOf, acceptsOf, eraseOf, disableOf, judgeOf}
 use Rattle.judging.specs.Passwords.{masterPicked, matchesOf}
@@ -22,11 +22,10 @@ open-sound s k = record { few = k; sure = λ l. absurd (false≢true l) }
 
 mismatch-sound : (s : Security) → Sound s → Sound (mismatchedOf s)
 unfolding mismatchedOf
-mismatch-sound s k = go (ltb 0 (s .attempts)) refl
-  where
-    go : (b : Bool) → ltb 0 (s .attempts) ≡ b → Sound (mismatchedOf s)
-    go true e = rw e record { few = let h : s .attempts ≤ 5 = k .few in omega arith; sure = k .sure }
-    go false e = rw e k
+mismatch-sound s k =
+    either-way (ltb 0 (s .attempts))
+    (λ e. rw e record { few = let h : s .attempts ≤ 5 = k .few in omega arith; sure = k .sure })
+    (λ e. rw e k)
 
 -- one of two judgements
 pick-sound : (b : Bool) (j k : Judged) → Sound (j .security) → Sound (k .security) → Sound (pick b j k .security)

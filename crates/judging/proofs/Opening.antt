@@ -4,6 +4,7 @@ use mathlib.Core.Path.{_≡_, refl}
 use mathlib.Core.List.{List}
 use Prim.Native.Nat.{ℕ, _-_, _<_}
 use borrow.Author.Tests.{lt-ltb}
+use Rattle.base.proofs.Tests.{either-way}
 use Rattle.block.specs.Passwords.{passwordOf}
 use Rattle.block.proofs.Comparing.{same-refl, same-true}
 use Rattle.lock.specs.Lock.{isLocked, unpreparedOf, withAttempts}
@@ -63,11 +64,10 @@ master-refused s x b l h p = simp (l, p, h)
 pub wrong-costs : (s : Security) (x : Secrets) (b : List ℕ) → isLocked (s .lock) ≡ true → masterAtMaximum s b ≡ false → (passwordOf b ≡ pickedOf x b → ⊥)
     → 0 < s .attempts → judgeOf Unlock s x b ≡ judged (withAttempts s (s .attempts - 1)) x Aborts
 unfolding judgeOf unlockOf unlockLocked mismatchedOf
-wrong-costs s x b l p w a = go (matchesOf x b) refl
-  where
-    go : (m : Bool) → matchesOf x b ≡ m → unlockOf s x b ≡ judged (withAttempts s (s .attempts - 1)) x Aborts
-    go true e = absurd (w (matches-only x b e))
-    go false e = simp (l, p, e, lt-ltb 0 (s .attempts) a)
+wrong-costs s x b l p w a =
+    either-way (matchesOf x b)
+    (λ e. absurd (w (matches-only x b e)))
+    (λ e. simp (l, p, e, lt-ltb 0 (s .attempts) a))
 
 -- UNLOCK: not locked, any block ends well and changes nothing
 pub unlock-idle : (s : Security) (x : Secrets) (b : List ℕ) → isLocked (s .lock) ≡ false → judgeOf Unlock s x b ≡ judged s x EndsWell
@@ -95,11 +95,7 @@ accepts-off s x b h = simp h
 -- ERASE UNIT and DISABLE PASSWORD: a wrong password where security is on is not accepted
 pub accepts-wrong : (s : Security) (x : Secrets) (b : List ℕ) → s .enabled ≡ true → (passwordOf b ≡ pickedOf x b → ⊥) → acceptsOf s x b ≡ false
 unfolding acceptsOf
-accepts-wrong s x b h w = go (matchesOf x b) refl
-  where
-    go : (m : Bool) → matchesOf x b ≡ m → acceptsOf s x b ≡ false
-    go true e = absurd (w (matches-only x b e))
-    go false e = simp (h, e)
+accepts-wrong s x b h w = either-way (matchesOf x b) (λ e. absurd (w (matches-only x b e))) (λ e. simp (h, e))
 
 -- then ERASE UNIT aborts, its preparation ended, and takes no attempt
 pub erase-refused : (s : Security) (x : Secrets) (b : List ℕ) → acceptsOf s x b ≡ false → judgeOf Erase s x b ≡ judged (unpreparedOf s) x Aborts

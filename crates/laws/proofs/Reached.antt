@@ -8,7 +8,7 @@ use lib.Dec.{eqb, ltb}
 use lib.ListN.{length}
 use borrow.Author.Tests.{eqb-true}
 use Rattle.base.specs.Choice.{pick, within}
-use Rattle.base.proofs.Tests.{false≢true, pick-both, pick-each}
+use Rattle.base.proofs.Tests.{false≢true, pick-both, pick-each, either-way}
 use Rattle.geometry.specs.Geometry.{geometryFits}
 use Rattle.geometry.specs.declared.Geometry.{Geometry}
 use Rattle.geometry.specs.Translation.{initializedOf}
@@ -385,11 +385,10 @@ alone-shaped d m a s = go (ignoredOf (d .face .hot) a) refl
 -- every call of the host keeps the shape, over whatever memory
 pub step-shaped : (d : Device) (m : List ℕ) (a : Action) → shapedOf d ≡ true → shapedOf (stepOf d m a .outcome .device) ≡ true
 unfolding stepOf
-step-shaped d m a s = go (eqb (length m) (memoryLength d)) refl
-  where
-    go : (b : Bool) → eqb (length m) (memoryLength d) ≡ b → shapedOf (stepOf d m a .outcome .device) ≡ true
-    go true e = rw (s, e) (alone-shaped d m a s)
-    go false e = rw (s, e) s
+step-shaped d m a s =
+    either-way (eqb (length m) (memoryLength d))
+    (λ e. rw (s, e) (alone-shaped d m a s))
+    (λ e. rw (s, e) s)
 
 -- setup's device, where it is not refused
 pub fresh-shaped : (g : Geometry) (i : Identity) (p : List ℕ) → geometryFits g ≡ true → identityFits i ≡ true → shapedOf (freshOf g i p) ≡ true

@@ -6,7 +6,7 @@ use mathlib.Core.List.{List}
 use Prim.Native.Nat.{ℕ}
 use lib.Dec.{eqb, ltb}
 use lib.ListN.{length}
-use Rattle.base.proofs.Tests.{pick-both}
+use Rattle.base.proofs.Tests.{pick-both, either-way}
 use Rattle.base.specs.Choice.{within}
 use Rattle.geometry.specs.Geometry.{geometryFits, geometryOf, checkedOf}
 use Rattle.geometry.proofs.Limits.{Limits, fits-limits, limits-fit}
@@ -137,11 +137,10 @@ setup-within c h s i p l e = simp (limits-fit (geometryOf c h s) l, e)
 -- and is refused where the counts are not
 pub setup-outside : (c h s : ℕ) (i : Identity) (p : List ℕ) → (Limits c h s → ⊥) → setupOf c h s i p ≡ setupRefused
 unfolding setupOf checkedOf
-setup-outside c h s i p l = go (geometryFits (geometryOf c h s)) refl
-  where
-    go : (b : Bool) → geometryFits (geometryOf c h s) ≡ b → setupOf c h s i p ≡ setupRefused
-    go true e = absurd (l (fits-limits (geometryOf c h s) e))
-    go false e = simp e
+setup-outside c h s i p l =
+    either-way (geometryFits (geometryOf c h s))
+    (λ e. absurd (l (fits-limits (geometryOf c h s) e)))
+    (λ e. simp e)
 
 -- or the identity is not
 pub setup-unprintable : (c h s : ℕ) (i : Identity) (p : List ℕ) → identityFits i ≡ false → setupOf c h s i p ≡ setupRefused

@@ -1,9 +1,9 @@
 -- The fast path takes a password block's words but the last as the word-by-word definition does, for every disk.
-use mathlib.Core.Bool.{Bool, true, false}
-use mathlib.Core.Path.{_≡_, refl}
+use mathlib.Core.Path.{_≡_}
 use mathlib.Core.List.{List}
 use Prim.Native.Nat.{ℕ}
 use lib.Dec.{ltb}
+use Rattle.base.proofs.Tests.{either-way}
 use Rattle.lock.specs.declared.Secrets.{Secrets}
 use Rattle.face.specs.Face.{withBuffer}
 use Rattle.fastpath.specs.Quick.{quickWriteOf, quickWriteBuffer}
@@ -28,8 +28,4 @@ TakenQuickly f x m w p =
 
 pub quick-password : (f : Face) (x : Secrets) (m : List ℕ) (w : ℕ) (p : PasswordBlock) → TakenQuickly f x m w p
 unfolding quickWriteOf quickWriteBuffer passwordWord passwordWordSectors
-quick-password f x m w p = go (ltb (p .word) 255) refl
-  where
-    go : (b : Bool) → ltb (p .word) 255 ≡ b → TakenQuickly f x m w p
-    go true e = simp e
-    go false e = simp e
+quick-password f x m w p = either-way (ltb (p .word) 255) (λ e. simp e) (λ e. simp e)

@@ -22,7 +22,7 @@ pub struct Came {
 }
 
 // Where the loop stands: the device, the next record's place, its reply's, and how many replies fit behind that one.
-pub struct Course {
+struct Course {
     pub device: Device,
     pub at: usize,
     pub put: usize,

@@ -235,13 +235,3 @@ unfolding wholePlay toCome
 whole-reply l m room e h k =
     let t = last-turn Opening room replayDevice (zeroed m) l h k in
     simp (right-length m e) (t .0 ∙ ap (λ (z : List ℕ). replyFrom replayDevice z l) (zeroed-sectors m e), t .1)
-
--- "empty input gives 01 00 01 05"
-pub empty-reply : replyOf [] ≡ 1 ∷ 0 ∷ 1 ∷ 5 ∷ []
-unfolding replyFrom
-empty-reply = refl
-
--- "a lone version byte gives 01"
-pub lone-version-reply : replyOf (1 ∷ []) ≡ 1 ∷ []
-unfolding replyFrom recordsReply playOf playAs nextOf
-lone-version-reply = refl

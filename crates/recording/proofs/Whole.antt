@@ -1,26 +1,17 @@
 -- The replay's device is in shape over 64 sectors, and one turn over cleared memory is the replay of the whole recording.
-use Prim.Native.Nat.{ℕ, _*_}
+use Prim.Native.Nat.{ℕ}
 use mathlib.Core.Bool.{Bool, true, false}
 use mathlib.Core.Logic.{_≢_}
 use mathlib.Core.Path.{_≡_, refl, sym, ap, _∙_}
 use mathlib.Core.List.{List, _++_}
-use native.Mathlib.Omega.{arith}
 use lib.Dec.{eqb}
 use lib.ListN.{length, drop, replicate, length-replicate}
 use borrow.Author.Tests.{eq-eqb, ne-eqb}
-use Rattle.base.specs.Choice.{within}
-use Rattle.geometry.specs.Geometry.{maxCylinders, maxHeads, maxSectors, geometryOf, capacityOf}
-use Rattle.geometry.proofs.Limits.{Limits, limits-fit}
 use Rattle.block.specs.Sectors.{zeroed}
-use Rattle.lock.specs.Passwords.{zeroPassword}
-use Rattle.settled.specs.Identity.{printable, identityFits}
-use Rattle.device.specs.Setup.{freshOf}
-use Rattle.device.specs.Host.{Ready, shapedOf, memoryLength}
-use Rattle.device.specs.declared.Outcome.{Outcome}
-use Rattle.laws.proofs.Refusals.{setup-within}
-use Rattle.laws.proofs.Reached.{fresh-shaped}
+use Rattle.device.specs.Host.{Ready}
 use Rattle.face.specs.declared.Answer.the-variants.{Done}
-use Rattle.playback.specs.Replay.{Play, spaces, replayDevice, zeroSectors, isOver}
+use Rattle.playback.specs.Replay.{Play, replayDevice, zeroSectors, isOver}
+use Rattle.playback.proofs.Samples.{device-ready, sectors-length}
 use Rattle.player.specs.Parts.{Gives}
 use Rattle.player.specs.declared.Came.{Came}
 use Rattle.playback.specs.declared.Stage.the-variants.{Opening}
@@ -30,34 +21,10 @@ use Rattle.recording.specs.declared.Replayed.{Replayed}
 
 -- ---- the device
 
-replay-limits : Limits 4 2 8
-unfolding maxCylinders maxHeads maxSectors
-replay-limits = record { some-cylinders = omega arith; few-cylinders = omega arith; some-heads = omega arith; few-heads = omega arith; some-sectors = omega arith; few-sectors = omega arith }
-
-spaces-fit : identityFits spaces ≡ true
-unfolding identityFits printable within spaces
-spaces-fit = refl
-
-replay-fresh : replayDevice ≡ freshOf (geometryOf 4 2 8) spaces zeroPassword
-replay-fresh = ap (λ (o : Outcome). o .device) (setup-within 4 2 8 spaces zeroPassword replay-limits spaces-fit)
-
-replay-length : memoryLength replayDevice ≡ 32768
-unfolding capacityOf
-replay-length = ap memoryLength replay-fresh
-
 pub replay-ready : (s : Stream) (m : List ℕ) → s ≡ startOf → length m ≡ 32768 → Ready (s .device) m
-replay-ready s m e l =
-    let d : s .device ≡ replayDevice = ap (λ (x : Stream). x .device) e in
-    record {
-      shaped = ap shapedOf (d ∙ replay-fresh) ∙ fresh-shaped (geometryOf 4 2 8) spaces zeroPassword (limits-fit (geometryOf 4 2 8) replay-limits) spaces-fit;
-      long = l ∙ sym (ap memoryLength d ∙ replay-length);
-    }
+replay-ready s m e l = rw (sym (ap (λ (x : Stream). x .device) e)) at device-ready m l
 
 -- ---- its memory
-
-pub sectors-length : length zeroSectors ≡ 32768
-unfolding zeroSectors
-sectors-length = length-replicate {A = ℕ} (512 * 64) 0
 
 pub zeroed-length : (m z : List ℕ) → z ≡ zeroed m → length z ≡ length m
 unfolding zeroed

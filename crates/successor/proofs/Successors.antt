@@ -8,6 +8,7 @@ use mathlib.Core.Logic.{_⊎_, inl, inr}
 use lib.Dec.{ltb}
 use borrow.Author.Tests.{ltb-true, ltb-false}
 use Rattle.base.specs.Choice.{pick}
+use Rattle.base.proofs.Tests.{either-way}
 use Rattle.geometry.specs.Geometry.{geometryFits, capacityOf}
 use Rattle.geometry.specs.Translation.{translationAllowed, productOf}
 use Rattle.geometry.specs.declared.Geometry.{Geometry}
@@ -230,11 +231,7 @@ after-chs g t r a f e n = go (chs-next t r (counts g t f) (old .0))
 
 after : (g : Geometry) (t : Translation) (r : AddressRegisters) (a : Sector) → geometryFits g ≡ true → translationAllowed g t ≡ true
     → addressOf g t r ≡ Names a → After g t r a
-after g t r a f u n = go (lbaSelected r) refl
-  where
-    go : (b : Bool) → lbaSelected r ≡ b → After g t r a
-    go true e = after-lba g t r a f e n
-    go false e = after-chs g t r a u e n
+after g t r a f u n = either-way (lbaSelected r) (λ e. after-lba g t r a f e n) (λ e. after-chs g t r a u e n)
 
 -- the successor of sector n names n + 1
 pub successor-next : (g : Geometry) (t : Translation) (r : AddressRegisters) (a : Sector) → geometryFits g ≡ true → translationAllowed g t ≡ true
