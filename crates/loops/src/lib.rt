@@ -83,12 +83,18 @@ pub fn swift(from: Stand, buffer: &mut [u8; 512], rec: &[u8], out: &mut [u8]) ->
             Found::Record(action, size) => match fastpath::quick(hot, buffer, action) {
                 Quick::Settles(seen) => {
                     answer(out, put, seen);
-                    let onward = standing(seen.hot, at + size, put + 5, left - 1);
-                    let far = glide(onward, buffer, rec, out);
-                    hot = far.hot;
-                    at = far.at;
-                    put = far.put;
-                    left = far.left;
+                    hot = seen.hot;
+                    at = at + size;
+                    put = put + 5;
+                    left = left - 1;
+                    // With no transfer open a glance shows little, and taking the hot part apart for it does not pay.
+                    if !hot.idle() {
+                        let far = glide(standing(hot, at, put, left), buffer, rec, out);
+                        hot = far.hot;
+                        at = far.at;
+                        put = far.put;
+                        left = far.left;
+                    }
                 }
                 Quick::Slow => return standing(hot, at, put, left),
             },
