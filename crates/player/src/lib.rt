@@ -77,6 +77,7 @@ fn stretch(device: Device, at: usize, put: usize, left: usize, rec: &[u8], out: 
         left: far.left,
     }
 }
+
 // Replays whole records from where it came on, until the reply is full or the bytes are used up.
 pub fn play(from: Came, sectors: &mut [u8], rec: &[u8], last: bool, out: &mut [u8]) -> Came
     requires { ⌜ Ready (from .device) (now sectors) × ((from .taken ≤ length (now rec)) × (from .made ≤ length (now out))) ⌝ }
