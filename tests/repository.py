@@ -121,7 +121,7 @@ def imports_are_used(_):
 
 
 # What the check says where a proof file does not fit the code's shape, which shows nothing of the facts.
-UNFIT = ['has no `Need-', 'expected type `tie.Need-', 'expected type `Need-', 'is not in scope', 'has no field']
+UNFIT = ['has no `Need-', 'expected type `tie.Need-', 'expected type `Need-', 'is not in scope', 'has no field', 'error: `Inv-', 'error: `μ-']
 
 
 def edits_find_their_text(_):
