@@ -21,7 +21,6 @@ from tree import read  # noqa: E402
 LONGEST_FUNCTION = 40  # lines
 MOST_FUNCTIONS = 40  # a crate stays below
 LARGEST_SHARE = 15  # one crate's check, in 100 of all checks' time
-MADE = ['.git', 'target', 'build', '__pycache__']  # names of folders that hold nothing written by hand
 
 
 def crates_are_listed(_):
@@ -83,13 +82,12 @@ def crates_are_small(_):
 
 
 def no_folder_of_one_machine_is_named(_):
-    """Files name places within the repository, or of every Linux."""
+    """Files name places within the repository, or of every Linux. What git ignores was made here and is not looked at."""
+    kept = subprocess.run(['git', 'ls-files', '-z', '--cached', '--others', '--exclude-standard'], capture_output=True, check=True).stdout
     complaints = []
-    for folder, folders, files in os.walk('.'):
-        folders[:] = [name for name in folders if name not in MADE]
-        for path in (os.path.join(folder, name) for name in files):
-            with open(path, 'rb') as f:
-                complaints += [f'{path}: {name.decode()}' for name in re.findall(rb'/(?:work|root|home|opt)/\w*', f.read())]
+    for path in filter(os.path.isfile, kept.decode().split('\0')):
+        with open(path, 'rb') as f:
+            complaints += [f'{path}: {name.decode()}' for name in re.findall(rb'/(?:work|root|home|opt)/\w*', f.read())]
     return complaints
 
 
@@ -188,6 +186,12 @@ def rules_name_every_definition(_):
     return [f'{name} is in no rule' for name in there - named] + [f'{name} is no definition' for name in named - there]
 
 
+def names_mean_one_thing(_):
+    """No two files of specs/ define one name: a rule names its definition without its crate."""
+    names = [name for path in glob.glob('crates/*/specs/*.antt') for name in set(tree.public_names(path))]
+    return [f'{name} is defined twice' for name in sorted({name for name in names if 1 < names.count(name)})]
+
+
 def laws_that_are_named_exist(_):
     """docs/ARCHITECTURE.md names only laws that are there, in the table of laws."""
     there = {name for path in glob.glob('crates/*/proofs/*.antt') for name in tree.public_names(path)}
@@ -197,7 +201,7 @@ def laws_that_are_named_exist(_):
 
 CHECKS = [crates_are_listed, layout_is_kept, functions_are_short, crates_are_small, no_folder_of_one_machine_is_named, proofs_have_recipes,
           imports_are_used, edits_find_their_text, promises_name_every_call, slips_have_edits, rules_name_every_definition,
-          laws_that_are_named_exist]
+          names_mean_one_thing, laws_that_are_named_exist]
 CHECKS_OF_A_RUN = [crates_check_quickly, edits_reach_a_proof]
 
 

@@ -10,10 +10,10 @@ use Rattle.face.specs.declared.Seen.{Seen}
 use Rattle.face.specs.declared.Answer.{Answer}
 use Rattle.face.specs.declared.Answer.the-variants.{Done}
 use Rattle.face.specs.declared.Action.{Action}
-use Rattle.password.specs.Effects.{Effect}
+use Rattle.effects.specs.Effects.{Effect}
 use Rattle.disk.specs.Actions.{actOf}
 use Rattle.fastpath.specs.Dev.{ignoredOf}
-use Rattle.password.specs.declared.Acted.{Acted}
+use Rattle.effects.specs.declared.Acted.{Acted}
 use Rattle.device.specs.declared.Device.{Device}
 use Rattle.device.specs.declared.Outcome.{Outcome}
 

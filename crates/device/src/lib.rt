@@ -4,6 +4,7 @@ ghost use Rattle.transfers.specs.Sectors.{Memory};
 ghost use Rattle.device.specs.Setup.{zeroDevice, freshOf, setupOf};
 ghost use Rattle.device.specs.Alone.{outcome, quickOutcome, toldOf, actedOf, aloneOf};
 ghost use Rattle.device.specs.Host.{aloneFits, shapedOf, stepOf};
+use effects::Acted;
 use face::Action;
 use face::Answer;
 use face::Face;
@@ -13,7 +14,6 @@ use face::Seen;
 use geometry::Checked;
 use geometry::Geometry;
 use lock::Secrets;
-use password::Acted;
 use settled::Identity;
 
 pub struct Device {

@@ -16,7 +16,7 @@ use Rattle.face.specs.declared.Action.the-variants.{ReadRegister, WriteRegister
 use Rattle.transfers.specs.Words.{readBufferWord, writeBufferWord}
 use Rattle.reading.specs.Words.{readWordAs, readWordOf, readRunOf}
 use Rattle.writing.specs.Words.{writeRunOf, writeRunSectors}
-use Rattle.password.specs.Effects.{effect}
+use Rattle.effects.specs.Effects.{effect}
 use Rattle.password.proofs.FastWord.{quickThen, quick-password}
 use Rattle.disk.specs.Actions.{toldActed, writeRegisterOf, writeWordAs, writeWordOf, actOf}
 

@@ -20,9 +20,9 @@ use Rattle.reading.specs.Words.{readWordOf}
 use Rattle.writing.specs.Words.{writeRunOf, writeRunSectors}
 use Rattle.transfers.specs.declared.Told.{Told}
 use Rattle.commands.specs.Gate.{commandOf}
-use Rattle.password.specs.Effects.{acted, Effect, effect, seenActed}
+use Rattle.effects.specs.Effects.{acted, Effect, effect, seenActed}
 use Rattle.password.specs.Passwords.{passwordWord, passwordWordSectors}
-use Rattle.password.specs.declared.Acted.{Acted}
+use Rattle.effects.specs.declared.Acted.{Acted}
 
 -- an action on the face
 abbrev pub toldActed : Secrets → Told → Acted

@@ -5,21 +5,21 @@ ghost use Rattle.face.specs.Reads.{readRegister, lineOf};
 ghost use Rattle.face.specs.Writes.{putRegister};
 ghost use Rattle.transfers.specs.Sectors.{Memory};
 ghost use Rattle.transfers.specs.Words.{told};
-ghost use Rattle.password.specs.Effects.{acted, seenActed};
+ghost use Rattle.effects.specs.Effects.{acted, seenActed};
 ghost use Rattle.disk.specs.Actions.{toldActed, writeRegisterOf, writeWordOf, actOf};
+use effects::Acted;
 use face::Action;
 use face::Answer;
 use face::Face;
 use face::Transfer;
 use lock::Secrets;
-use password::Acted;
 use transfers::Told;
 
 // A data word with no transfer that way.
 fn refused(face: Face, secrets: Secrets) -> Acted
     ensures { λ r. ⌜ r ≡ acted face secrets Answer.NoTransfer 0 ⌝ }
 {
-    password::acts(face, secrets, Answer::NoTransfer, 0)
+    effects::acts(face, secrets, Answer::NoTransfer, 0)
 }
 
 // A data word is written.
@@ -32,9 +32,9 @@ fn write_word(face: Face, secrets: Secrets, w: u16, sectors: &mut [u8]) -> Acted
     match t {
         Transfer::Idle => refused(face, secrets),
         Transfer::Reading(r) => refused(face, secrets),
-        Transfer::Writing(r) => password::done(writing::write_run(face, r, w, sectors), secrets),
+        Transfer::Writing(r) => effects::done(writing::write_run(face, r, w, sectors), secrets),
         Transfer::ReadingBuffer(n) => refused(face, secrets),
-        Transfer::WritingBuffer(n) => password::done(
+        Transfer::WritingBuffer(n) => effects::done(
             transfers::write_buffer_word(face, n, w),
             secrets,
         ),
@@ -82,7 +82,7 @@ fn register_read(face: Face, secrets: Secrets, n: u8) -> Acted
     let seen = hot.read_register(n);
     let left = seen.hot;
     let answer = seen.answer;
-    password::acts(face.with_hot(left), secrets, answer, seen.value)
+    effects::acts(face.with_hot(left), secrets, answer, seen.value)
 }
 
 // The interrupt line is read.
@@ -90,7 +90,7 @@ fn line_read(face: Face, secrets: Secrets) -> Acted
     ensures { λ r. ⌜ r ≡ acted face secrets Answer.Done (lineOf (face .hot)) ⌝ }
 {
     let hot = face.hot;
-    password::acts(face, secrets, Answer::Done, hot.line())
+    effects::acts(face, secrets, Answer::Done, hot.line())
 }
 
 // An action that leaves the passwords.
@@ -99,7 +99,7 @@ fn told_acts(secrets: Secrets, told: Told) -> Acted
 {
     let face = told.face;
     let answer = told.answer;
-    password::acts(face, secrets, answer, told.value)
+    effects::acts(face, secrets, answer, told.value)
 }
 
 // A host action over the disk's own memory.
@@ -112,8 +112,8 @@ pub fn act(face: Face, secrets: Secrets, action: Action, sectors: &mut [u8]) -> 
         Action::WriteRegister(n, v) => told_acts(secrets, write_register(face, n, v, &sectors[..])),
         Action::ReadWord => told_acts(secrets, reading::read_word(face, &sectors[..])),
         Action::WriteWord(w) => write_word(face, secrets, w, sectors),
-        Action::HardwareReset => password::done(resets::powered_on(face), secrets),
-        Action::PowerOn => password::done(resets::powered_on(face), secrets),
+        Action::HardwareReset => effects::done(resets::powered_on(face), secrets),
+        Action::PowerOn => effects::done(resets::powered_on(face), secrets),
         Action::Line => line_read(face, secrets),
     }
 }

@@ -128,6 +128,7 @@ fn unanswered(action: Action) -> bool
     }
 }
 
+// Where DEV is set.
 pub fn ignored(hot: Hot, action: Action) -> bool
     ensures { λ r. ⌜ r ≡ ignoredOf hot action ⌝ }
 {

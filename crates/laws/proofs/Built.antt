@@ -43,7 +43,7 @@ use Rattle.transfers.specs.declared.Told.{Told}
 use Rattle.commands.specs.Others.{seekAs, seekOf, recalibrateOf, initializeAs, initializeParametersOf, diagnosticOf, identifyDeviceOf, readBufferOf, writeBufferOf, takePasswordOf, erasePrepareOf, freezeLockOf}
 use Rattle.commands.specs.Gate.{begunOf, abortAtOnce, runOf, stationsOf, commandOf}
 use Rattle.password.specs.Passwords.{passwordEnded, endedAs, judgementOf, passwordLast, passwordWord}
-use Rattle.password.specs.declared.Acted.{Acted}
+use Rattle.effects.specs.declared.Acted.{Acted}
 use Rattle.disk.specs.Actions.{writeRegisterOf, writeWordAs, writeWordOf, actOf}
 use Rattle.device.specs.Alone.{Step, aloneOf}
 use Rattle.device.specs.declared.Device.{Device}

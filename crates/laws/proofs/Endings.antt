@@ -28,7 +28,7 @@ use Rattle.reading.specs.Words.{readNextOf, readRunOf, readWordAs, readWordOf}
 use Rattle.writing.specs.Words.{wantAs, wantAt, writeNextOf, writeLastAs, writeLastOf, writeRunOf}
 use Rattle.password.specs.Passwords.{passwordEnded, endedAs, judgementOf, passwordLast, passwordWord}
 use Rattle.disk.specs.Actions.{writeWordAs, writeWordOf, actOf}
-use Rattle.password.specs.declared.Acted.{Acted}
+use Rattle.effects.specs.declared.Acted.{Acted}
 
 -- how many words a transfer has still to take
 abbrev pub wordsLeft : Transfer → ℕ

@@ -22,7 +22,7 @@ use Rattle.face.specs.declared.Action.the-variants.{WriteWord}
 use Rattle.fastpath.specs.Dev.{ignoredOf}
 use Rattle.transfers.specs.Words.{wordIn}
 use Rattle.password.specs.Passwords.{sectorsAs, judgedActed, passwordLast, passwordLastSectors, passwordWord, passwordWordSectors}
-use Rattle.password.specs.Effects.{effect}
+use Rattle.effects.specs.Effects.{effect}
 use Rattle.disk.specs.Actions.{writeWordAs, writeWordOf, actOf}
 use Rattle.device.specs.Alone.{Step, stepAs, aloneOf}
 use Rattle.device.specs.Host.{Ready, stepOf}

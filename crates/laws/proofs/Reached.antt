@@ -60,7 +60,7 @@ use Rattle.commands.specs.Others.{seekAs, seekOf, recalibrateOf, initializeAs, 
 use Rattle.commands.specs.Gate.{begunOf, abortAtOnce, runOf, stationsOf, commandOf}
 use Rattle.shape.specs.Shape.{diskFits}
 use Rattle.password.specs.Passwords.{passwordEnded, endedAs, judgementOf, passwordLast, passwordWord}
-use Rattle.password.specs.declared.Acted.{Acted}
+use Rattle.effects.specs.declared.Acted.{Acted}
 use Rattle.disk.specs.Actions.{writeRegisterOf, writeWordAs, writeWordOf, actOf}
 use Rattle.shape.proofs.Clauses.{Fits, shape-clauses, clauses-shape}
 use Rattle.device.specs.Alone.{aloneOf}

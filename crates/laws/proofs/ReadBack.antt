@@ -25,7 +25,7 @@ use Rattle.transfers.specs.Words.{wordIn}
 use Rattle.reading.specs.Words.{readRunOf, readWordAs, readWordOf}
 use Rattle.writing.specs.Words.{writeRunOf, writeRunSectors}
 use Rattle.transfers.proofs.Reached.{memory-room}
-use Rattle.password.specs.Effects.{effect}
+use Rattle.effects.specs.Effects.{effect}
 use Rattle.disk.specs.Actions.{toldActed, writeWordAs, writeWordOf, actOf}
 use Rattle.device.specs.Alone.{Step, deviceOf, outcome, stepAs, aloneOf}
 use Rattle.fastpath.specs.Dev.{ignoredOf}

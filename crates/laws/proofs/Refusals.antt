@@ -28,9 +28,9 @@ use Rattle.transfers.specs.Words.{told, noTransfer}
 use Rattle.reading.specs.Words.{readWordAs, readWordOf}
 use Rattle.transfers.specs.declared.Told.{Told}
 use Rattle.password.specs.Passwords.{passwordLast, passwordWord}
-use Rattle.password.specs.Effects.{Effect}
+use Rattle.effects.specs.Effects.{Effect}
 use Rattle.disk.specs.Actions.{wordRefused, writeRegisterOf, writeWordAs, writeWordOf, actOf}
-use Rattle.password.specs.declared.Acted.{Acted}
+use Rattle.effects.specs.declared.Acted.{Acted}
 use Rattle.device.specs.Alone.{Step, deviceOf, outcome, shown, actedOf, aloneOf}
 use Rattle.fastpath.specs.Dev.{ignoredOf}
 use Rattle.device.specs.Host.{shapedOf, memoryLength, stepOf}

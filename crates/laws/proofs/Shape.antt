@@ -60,7 +60,7 @@ use Rattle.commands.specs.Gate.{begunOf, abortAtOnce, runOf, stationsOf, comman
 use Rattle.shape.specs.Shape.{isNamed, runFits, purposeFits, passwordFits, transferFits, heldFits}
 use Rattle.transfers.specs.declared.Told.{Told}
 use Rattle.face.specs.declared.Seen.{Seen}
-use Rattle.password.specs.declared.Acted.{Acted}
+use Rattle.effects.specs.declared.Acted.{Acted}
 use Rattle.password.specs.Passwords.{passwordEnded, endedAs, judgementOf, passwordLast, passwordWord}
 use Rattle.shape.proofs.Clauses.{Fits}
 use Rattle.disk.specs.Actions.{writeRegisterOf, writeWordAs, writeWordOf, actOf}

@@ -12,7 +12,7 @@ use Rattle.face.specs.declared.PasswordBlock.{PasswordBlock}
 use Rattle.face.specs.declared.Transfer.the-variants.{TakingPassword}
 use Rattle.face.specs.declared.Quick.{Quick}
 use Rattle.face.specs.declared.Quick.the-variants.{Settles, Slow}
-use Rattle.password.specs.Effects.{Effect, effect, seenActed}
+use Rattle.effects.specs.Effects.{Effect, effect, seenActed}
 use Rattle.password.specs.Passwords.{passwordWord, passwordWordSectors}
 
 -- what the fast path settled, put in place; else what the long way gives

@@ -19,8 +19,8 @@ use Rattle.face.specs.declared.Answer.the-variants.{Done}
 use Rattle.face.specs.declared.Face.{Face}
 use Rattle.transfers.specs.Sectors.{abortFace, finishFace}
 use Rattle.transfers.specs.Words.{wordIn}
-use Rattle.password.specs.Effects.{acted}
-use Rattle.password.specs.declared.Acted.{Acted}
+use Rattle.effects.specs.Effects.{acted}
+use Rattle.effects.specs.declared.Acted.{Acted}
 
 -- the settings that the block left; "The buffer is zeroed however such a transfer ends"
 abbrev pub passwordEnded : Face → Security → Face

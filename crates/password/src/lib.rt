@@ -1,9 +1,8 @@
 // The words of password blocks, and what the last of a block leaves of a disk.
 ghost use mathlib.Core.Path.{_≡_};
 ghost use Prim.Native.Nat.{_<_};
-ghost use Rattle.password.specs.Effects.{acted};
 ghost use Rattle.password.specs.Passwords.{passwordEnded, endedAs, sectorsAs, judgedActed, passwordLast, passwordLastSectors, passwordMore, passwordWord, passwordWordSectors};
-use face::Answer;
+use effects::Acted;
 use face::Face;
 use face::PasswordBlock;
 use face::Transfer;
@@ -12,32 +11,6 @@ use judging::Verdict;
 use lock::Purpose;
 use lock::Secrets;
 use lock::Security;
-
-// What an action leaves of a disk, and what it shows.
-pub struct Acted {
-    pub face: Face,
-    pub secrets: Secrets,
-    pub answer: Answer,
-    pub value: u16,
-}
-
-pub fn acts(face: Face, secrets: Secrets, answer: Answer, value: u16) -> Acted
-    ensures { λ r. ⌜ r ≡ acted face secrets answer value ⌝ }
-{
-    Acted {
-        face,
-        secrets,
-        answer,
-        value,
-    }
-}
-
-// An action that is done and shows no value.
-pub fn done(face: Face, secrets: Secrets) -> Acted
-    ensures { λ r. ⌜ r ≡ acted face secrets Answer.Done 0 ⌝ }
-{
-    acts(face, secrets, Answer::Done, 0)
-}
 
 // The settings that a password block left, and the buffer zeroed.
 fn password_ended(face: Face, security: Security) -> Face
@@ -78,7 +51,7 @@ fn judged_ends(face: Face, judged: Judged, sectors: &mut [u8]) -> Acted
     let secrets = judged.secrets;
     let verdict = judged.verdict;
     erase_as(verdict, sectors);
-    done(ended_as(password_ended(face, security), verdict), secrets)
+    effects::done(ended_as(password_ended(face, security), verdict), secrets)
 }
 
 // The last word of a password block has arrived.
@@ -116,7 +89,7 @@ pub fn password_word(
     ensures { λ r. ⌜ (r ≡ passwordWord face secrets block w) × (now (sectors .exit) ≡ passwordWordSectors face secrets (now (sectors .entry)) block w) ⌝ }
 {
     if block.word < 255 {
-        return done(password_more(face, block, w), secrets);
+        return effects::done(password_more(face, block, w), secrets);
     }
     let purpose = block.purpose;
     password_last(

@@ -7,11 +7,11 @@ use Rattle.address.specs.declared.Address.{Address}
 use Rattle.address.specs.declared.Address.the-variants.{Names, Faults}
 use Rattle.block.specs.Sectors.{sectorAt}
 use Rattle.face.specs.Face.{withHot, withBuffer}
-use Rattle.face.specs.Ends.{raisedOf, finishOf, endedAt}
+use Rattle.face.specs.Ends.{raisedOf}
 use Rattle.face.specs.declared.Run.{Run}
 use Rattle.face.specs.declared.Transfer.the-variants.{Reading}
 use Rattle.face.specs.declared.Face.{Face}
-use Rattle.transfers.specs.Sectors.{located, afterOf, runAt, firstRun, notFoundOf}
+use Rattle.transfers.specs.Sectors.{located, afterOf, runAt, firstRun, endedWell, notFoundOf}
 
 -- a sector to be read is reached: "each block to be read" is in the buffer "whole once it is ready", and the interrupt raised
 abbrev pub readAs : Face → List ℕ → Run → Address → Face
@@ -31,13 +31,9 @@ abbrev pub verifyAs : Face → Run → Face → Address → Face
 verifyAs f r rest (Names x) = rest
 verifyAs f r rest Faults = notFoundOf f r
 
--- "On success count is 0 and the address is the last sector's"
-abbrev pub verifiedOf : Face → AddressRegisters → Face
-verifiedOf f at = withHot f (finishOf (endedAt (f .hot) at 0))
-
 -- the last sector is verified
 unfoldable pub verifyLast : Face → AddressRegisters → Face
-verifyLast f at = verifyAs f (runAt at 0) (verifiedOf f at) (located (f .settled) at)
+verifyLast f at = verifyAs f (runAt at 0) (endedWell f at) (located (f .settled) at)
 
 -- a sector and as many after it are verified
 unfoldable pub verifyFrom : Face → ℕ → AddressRegisters → Face

@@ -41,7 +41,6 @@ pub fn read_sectors(face: Face, sectors: &[u8]) -> Face
 fn verify_last(face: Face, at: AddressRegisters) -> Face
     ensures { λ r. ⌜ r ≡ verifyLast face at ⌝ }
 {
-    let hot = face.hot;
     let settled = face.settled;
     let Address::Names(sector) = transfers::located(settled, at) else {
         let run = Run {
@@ -51,7 +50,7 @@ fn verify_last(face: Face, at: AddressRegisters) -> Face
         };
         return transfers::not_found(face, run);
     };
-    face.with_hot(hot.ended_at(at, 0).finish())
+    transfers::ended_well(face, at)
 }
 
 // READ VERIFY SECTOR(S) (40h, 41h).

@@ -5,7 +5,7 @@ use mathlib.Core.Logic.{_≢_}
 use mathlib.Core.Path.{_≡_, refl, sym, ap, _∙_}
 use mathlib.Core.List.{List, _++_}
 use lib.Dec.{eqb}
-use lib.ListN.{length, drop, replicate, length-replicate}
+use lib.ListN.{length, drop, replicate}
 use borrow.Author.Tests.{eq-eqb, ne-eqb}
 use Rattle.block.specs.Sectors.{zeroed}
 use Rattle.device.specs.Host.{Ready}
@@ -25,10 +25,6 @@ pub replay-ready : (s : Stream) (m : List ℕ) → s ≡ startOf → length m �
 replay-ready s m e l = rw (sym (ap (λ (x : Stream). x .device) e)) at device-ready m l
 
 -- ---- its memory
-
-pub zeroed-length : (m z : List ℕ) → z ≡ zeroed m → length z ≡ length m
-unfolding zeroed
-zeroed-length m z e = ap length e ∙ length-replicate {A = ℕ} (length m) 0
 
 pub zeroed-sectors : (m : List ℕ) → length m ≡ 32768 → zeroed m ≡ zeroSectors
 unfolding zeroed zeroSectors

@@ -25,14 +25,14 @@ abbrev pub startOf : Stream
 startOf = record { device = replayDevice; stage = Opening }
 
 -- the records behind the version byte, which is answered by 01h
-abbrev pub openedOf : Bool → ℕ → Device → List ℕ → List ℕ → Play
-openedOf last room d m l = onto 1 (1 ∷ []) (playOf last ((room - 1) / 5) d m (drop 1 l))
+abbrev pub behindVersion : Bool → ℕ → Device → List ℕ → List ℕ → Play
+behindVersion last room d m l = onto 1 (1 ∷ []) (playOf last ((room - 1) / 5) d m (drop 1 l))
 
 -- the version byte, where there is one
 unfoldable pub openOf : Bool → ℕ → Device → List ℕ → List ℕ → Play
 openOf last room d m l =
     pick (ltb (length l) 1) (pick last (rests d m versionFault Over) (rests d m [] Opening))
-    (pick (eqb (getD l 0 0) 1) (openedOf last room d m l)
+    (pick (eqb (getD l 0 0) 1) (behindVersion last room d m l)
     (rests d m versionFault Over))
 
 -- what the bytes l give by where the replay stands, into that much room: 5 bytes for a record, 4 to open

@@ -7,7 +7,7 @@ ghost use lib.Seq.{sets};
 ghost use Rattle.device.specs.Host.{Ready};
 ghost use Rattle.playback.specs.Replay.{versionFault};
 ghost use Rattle.player.specs.Parts.{came, Gives};
-ghost use Rattle.recording.specs.Turns.{startOf, openedOf, turnAs, leastOf, takenOf, awayOf, turnOf, Leaves, wholePlay, replayedOf};
+ghost use Rattle.recording.specs.Turns.{startOf, behindVersion, turnAs, leastOf, takenOf, awayOf, turnOf, Leaves, wholePlay, replayedOf};
 use device::Device;
 use face::Answer;
 use geometry::Geometry;
@@ -46,9 +46,15 @@ fn version_fault(device: Device, out: &mut [u8]) -> Came
 }
 
 // The records behind the version byte.
-fn opened(device: Device, sectors: &mut [u8], rec: &[u8], last: bool, out: &mut [u8]) -> Came
+fn behind_version(
+    device: Device,
+    sectors: &mut [u8],
+    rec: &[u8],
+    last: bool,
+    out: &mut [u8],
+) -> Came
     requires { ⌜ Ready device (now sectors) × ((1 ≤ length (now rec)) × (1 ≤ length (now out))) ⌝ }
-    ensures { λ r. ⌜ Gives (openedOf last (length (now (out .entry))) device (now (sectors .entry)) (now (rec .entry))) r (now (sectors .exit)) (now (out .entry)) (now (out .exit)) ⌝ }
+    ensures { λ r. ⌜ Gives (behindVersion last (length (now (out .entry))) device (now (sectors .entry)) (now (rec .entry))) r (now (sectors .exit)) (now (out .entry)) (now (out .exit)) ⌝ }
 {
     out[0] = 1;
     let behind = player::halt(device, Stage::Replaying, 1, 1);
@@ -71,7 +77,7 @@ fn begin(device: Device, sectors: &mut [u8], rec: &[u8], last: bool, out: &mut [
     }
     let version = rec[0];
     if version == 1 {
-        return opened(device, sectors, rec, last, out);
+        return behind_version(device, sectors, rec, last, out);
     }
     version_fault(device, out)
 }

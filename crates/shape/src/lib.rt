@@ -37,18 +37,8 @@ fn password_fits(security: Security, purpose: Purpose) -> bool
     }
     match purpose {
         Purpose::Set => lock.open(),
-        Purpose::Unlock => {
-            if security.exhausted() {
-                return false;
-            }
-            true
-        }
-        Purpose::Erase => {
-            if security.cannot_erase() {
-                return false;
-            }
-            true
-        }
+        Purpose::Unlock => !security.exhausted(),
+        Purpose::Erase => !security.cannot_erase(),
         Purpose::Disable => lock.open(),
     }
 }

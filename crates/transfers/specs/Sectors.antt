@@ -14,7 +14,7 @@ use Rattle.address.specs.declared.AddressRegisters.{AddressRegisters}
 use Rattle.address.specs.declared.Address.{Address}
 use Rattle.settled.specs.declared.Settled.{Settled}
 use Rattle.face.specs.Face.{withHot}
-use Rattle.face.specs.Ends.{finishOf, abortOf, idnfOf}
+use Rattle.face.specs.Ends.{finishOf, abortOf, endedAt, idnfOf}
 use Rattle.face.specs.declared.Registers.{Registers}
 use Rattle.face.specs.declared.Run.{Run}
 use Rattle.face.specs.declared.Face.{Face}
@@ -51,6 +51,10 @@ abortFace f = withHot f (abortOf (f .hot))
 -- a command ends well
 abbrev pub finishFace : Face → Face
 finishFace f = withHot f (finishOf (f .hot))
+
+-- a sector command ends well: "On success count is 0 and the address is the last sector's"
+abbrev pub endedWell : Face → AddressRegisters → Face
+endedWell f at = withHot f (finishOf (endedAt (f .hot) at 0))
 
 -- "Error 10h, Status 51h, the bad address, and the sectors left including it, 256 shown as 00h"
 unfoldable pub notFoundOf : Face → Run → Face

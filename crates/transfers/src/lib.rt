@@ -1,7 +1,7 @@
 // What reading and writing share: the sector that an address names, runs of sectors, how commands end, and the data words of the buffer.
 ghost use mathlib.Core.Path.{_≡_};
 ghost use Prim.Native.Nat.{_<_};
-ghost use Rattle.transfers.specs.Sectors.{located, afterOf, firstRun, nextRun, abortFace, finishFace, notFoundOf};
+ghost use Rattle.transfers.specs.Sectors.{located, afterOf, firstRun, nextRun, abortFace, finishFace, endedWell, notFoundOf};
 ghost use Rattle.transfers.specs.Words.{told, noTransfer, readBufferWord, bufferWord, wordIn, writeBufferWord};
 use address::Address;
 use address::AddressRegisters;
@@ -86,6 +86,14 @@ pub fn finish(face: Face) -> Face
 {
     let hot = face.hot;
     face.with_hot(hot.finish())
+}
+
+// A sector command ends well: no sectors left, and the last one's address.
+pub fn ended_well(face: Face, at: AddressRegisters) -> Face
+    ensures { λ r. ⌜ r ≡ endedWell face at ⌝ }
+{
+    let hot = face.hot;
+    face.with_hot(hot.ended_at(at, 0).finish())
 }
 
 // A bad address ends a sector command: the address, and the sectors left including it, 256 shown as 00h.

@@ -7,16 +7,12 @@ use Rattle.address.specs.declared.Address.{Address}
 use Rattle.address.specs.declared.Address.the-variants.{Names, Faults}
 use Rattle.block.specs.Sectors.{storedAt}
 use Rattle.face.specs.Face.{withTransfer, withHot, nextWord}
-use Rattle.face.specs.Ends.{raisedOf, finishOf, endedAt}
+use Rattle.face.specs.Ends.{raisedOf}
 use Rattle.face.specs.declared.Run.{Run}
 use Rattle.face.specs.declared.Transfer.the-variants.{Writing}
 use Rattle.face.specs.declared.Face.{Face}
-use Rattle.transfers.specs.Sectors.{located, nextRun, notFoundOf}
+use Rattle.transfers.specs.Sectors.{located, nextRun, endedWell, notFoundOf}
 use Rattle.transfers.specs.Words.{wordIn}
-
--- a write ends well
-abbrev pub writeEnds : Face → Run → Face
-writeEnds f r = withHot f (finishOf (endedAt (f .hot) (r .at) 0))
 
 -- "when each block to be written after the first is wanted" the interrupt is raised
 abbrev pub wantAs : Face → Run → Address → Face
@@ -29,7 +25,7 @@ wantAt f r = wantAs f r (located (f .settled) (r .at))
 
 -- a sector has been stored: the next one is reached, or the write ends
 unfoldable pub writeNextOf : Face → Run → Face
-writeNextOf f r = pick (ltb 0 (r .after)) (wantAt f (nextRun r (f .settled .translation))) (writeEnds f r)
+writeNextOf f r = pick (ltb 0 (r .after)) (wantAt f (nextRun r (f .settled .translation))) (endedWell f (r .at))
 
 -- the last word of a sector has arrived, by the sector that the run names
 abbrev pub writeLastAs : Face → Run → Address → Face

@@ -52,9 +52,8 @@ fn write_next(face: Face, run: Run) -> Face
         let translation = settled.translation;
         return want_at(face, transfers::next_run(run, translation));
     }
-    let hot = face.hot;
     let at = run.at;
-    face.with_hot(hot.ended_at(at, 0).finish())
+    transfers::ended_well(face, at)
 }
 
 // The last word of a sector has arrived: it is stored.

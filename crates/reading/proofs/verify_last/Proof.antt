@@ -20,18 +20,12 @@ returns : tie.Need-returns
 unfolding verifyLast
 returns c = simp (c .not-found .ensures, c .before .enum-told .given .1, ← c .before .before .before .located .ensures)
 
-ended-at-requires : tie.Need-ended-at-requires
-ended-at-requires c κs = search needs
-
-finish-requires : tie.Need-finish-requires
-finish-requires c κs = search needs
-
-with-hot-requires : tie.Need-with-hot-requires
-with-hot-requires c κs = search needs
+ended-well-requires : tie.Need-ended-well-requires
+ended-well-requires c κs = search needs
 
 returns-2 : tie.Need-returns-2
 unfolding verifyLast
-returns-2 c = simp (c .with-hot .ensures, c .before .finish .ensures, c .before .before .ended-at .ensures, c .before .before .before .before .sector .given .1, ← c .before .before .before .before .before .before .located .ensures)
+returns-2 c = simp (c .ended-well .ensures, c .before .before .sector .given .1, ← c .before .before .before .before .located .ensures)
 
 pub verify-last-spec : {M : Type 1} → statement M
 verify-last-spec =
@@ -42,7 +36,5 @@ verify-last-spec =
     enum-told
     not-found-requires
     returns
-    ended-at-requires
-    finish-requires
-    with-hot-requires
+    ended-well-requires
     returns-2)

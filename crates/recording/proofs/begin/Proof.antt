@@ -34,8 +34,8 @@ returns-3 c = simp (c .halt2 .ensures, c .before .if3 .left, lt-ltb _ _ (c .befo
 shared-slice-read-version : tie.Need-shared-slice-read-version
 shared-slice-read-version c = search needs
 
-opened-requires : tie.Need-opened-requires
-opened-requires c κs = (c .before .before .before .before .before .before .before .before .before .pre, (omega arith, omega arith))
+behind-version-requires : tie.Need-behind-version-requires
+behind-version-requires c κs = (c .before .before .before .before .before .before .before .before .before .pre, (omega arith, omega arith))
 
 same-length-2 : tie.Need-same-length-2
 same-length-2 c = search needs
@@ -45,7 +45,7 @@ same-length-3 c = search needs
 
 returns-4 : tie.Need-returns-4
 unfolding turnAs openOf
-returns-4 c = simp (le-ltb _ _ (c .before .before .before .before .before .before .before .before .before .before .if1 .left), le-ltb _ _ (c .before .before .before .before .before .before .before .before .before .if2 .left), eq-eqb _ _ (c .before .before .before .before .before .before .before .if4 .taken)) (c .before .before .before .before .opened .ensures)
+returns-4 c = simp (le-ltb _ _ (c .before .before .before .before .before .before .before .before .before .before .if1 .left), le-ltb _ _ (c .before .before .before .before .before .before .before .before .before .if2 .left), eq-eqb _ _ (c .before .before .before .before .before .before .before .if4 .taken)) (c .before .before .before .before .behind-version .ensures)
 
 version-fault-requires-2 : tie.Need-version-fault-requires-2
 version-fault-requires-2 c κs = search needs
@@ -69,7 +69,7 @@ begin-spec =
     halt-requires-2
     returns-3
     shared-slice-read-version
-    opened-requires
+    behind-version-requires
     same-length-2
     same-length-3
     returns-4

@@ -1,7 +1,9 @@
 -- Over memory of 64 sectors, cleared, one turn from the start.
-use Rattle.recording.proofs.Whole.{replay-ready, replays, replays-nothing, zeroed-length}
+use Rattle.block.proofs.SectorLaws.{zeroed-length}
+use Rattle.recording.proofs.Whole.{replay-ready, replays, replays-nothing}
 use borrow.Author.Needs.{needs}
-use mathlib.Core.Path.{_∙_}
+use lib.ListN.{length}
+use mathlib.Core.Path.{_∙_, ap}
 use Rattle.recording.proofs.replay.Statement.{statement}
 use Rattle.recording.proofs.replay.Tie as tie
 
@@ -12,7 +14,7 @@ start-requires : tie.Need-start-requires
 start-requires c κs = search needs
 
 part-requires : tie.Need-part-requires
-part-requires c κs = replay-ready _ _ (c .before .before .start .ensures) (zeroed-length _ _ (c .before .before .before .before .before .zero .ensures) ∙ c .before .before .before .before .before .before .before .if1 .taken)
+part-requires c κs = replay-ready _ _ (c .before .before .start .ensures) (ap length (c .before .before .before .before .before .zero .ensures) ∙ zeroed-length _ ∙ c .before .before .before .before .before .before .before .if1 .taken)
 
 over-requires : tie.Need-over-requires
 over-requires c κs = search needs

@@ -24,19 +24,11 @@ enum-told-2 c = search needs
 exhausted-requires : tie.Need-exhausted-requires
 exhausted-requires c κs = search needs
 
-returns-2 : tie.Need-returns-2
-unfolding passwordFits
-returns-2 c = simp (c .if2 .taken, ← c .before .exhausted .ensures, c .before .before .enum-told2 .given .1, sym (c .before .before .before .before .before .frozen .ensures) ∙ c .before .before .before .before .if1 .left)
-
 enum-told-3 : tie.Need-enum-told-3
 enum-told-3 c = search needs
 
 cannot-erase-requires : tie.Need-cannot-erase-requires
 cannot-erase-requires c κs = search needs
-
-returns-3 : tie.Need-returns-3
-unfolding passwordFits
-returns-3 c = simp (c .if3 .taken, ← c .before .cannot-erase .ensures, c .before .before .enum-told3 .given .1, sym (c .before .before .before .before .before .frozen .ensures) ∙ c .before .before .before .before .if1 .left)
 
 enum-told-4 : tie.Need-enum-told-4
 enum-told-4 c = search needs
@@ -44,21 +36,21 @@ enum-told-4 c = search needs
 open-requires-2 : tie.Need-open-requires-2
 open-requires-2 c κs = search needs
 
+returns-2 : tie.Need-returns-2
+unfolding passwordFits
+returns-2 c = simp (c .«open» .ensures, c .before .enum-told .given .1, sym (c .before .before .before .before .frozen .ensures) ∙ c .before .before .before .if1 .left)
+
+returns-3 : tie.Need-returns-3
+unfolding passwordFits
+returns-3 c = simp (c .exhausted .ensures, c .before .enum-told2 .given .1, sym (c .before .before .before .before .frozen .ensures) ∙ c .before .before .before .if1 .left)
+
 returns-4 : tie.Need-returns-4
 unfolding passwordFits
-returns-4 c = simp (c .«open» .ensures, c .before .enum-told .given .1, sym (c .before .before .before .before .frozen .ensures) ∙ c .before .before .before .if1 .left)
+returns-4 c = simp (c .cannot-erase .ensures, c .before .enum-told3 .given .1, sym (c .before .before .before .before .frozen .ensures) ∙ c .before .before .before .if1 .left)
 
 returns-5 : tie.Need-returns-5
 unfolding passwordFits
-returns-5 c = simp (c .if2 .left, ← c .before .exhausted .ensures, c .before .before .enum-told2 .given .1, sym (c .before .before .before .before .before .frozen .ensures) ∙ c .before .before .before .before .if1 .left)
-
-returns-6 : tie.Need-returns-6
-unfolding passwordFits
-returns-6 c = simp (c .if3 .left, ← c .before .cannot-erase .ensures, c .before .before .enum-told3 .given .1, sym (c .before .before .before .before .before .frozen .ensures) ∙ c .before .before .before .before .if1 .left)
-
-returns-7 : tie.Need-returns-7
-unfolding passwordFits
-returns-7 c = simp (c .open2 .ensures, c .before .enum-told4 .given .1, sym (c .before .before .before .before .frozen .ensures) ∙ c .before .before .before .if1 .left)
+returns-5 c = simp (c .open2 .ensures, c .before .enum-told4 .given .1, sym (c .before .before .before .before .frozen .ensures) ∙ c .before .before .before .if1 .left)
 
 pub password-fits-spec : {M : Type 1} → statement M
 password-fits-spec =
@@ -70,13 +62,11 @@ password-fits-spec =
     open-requires
     enum-told-2
     exhausted-requires
-    returns-2
     enum-told-3
     cannot-erase-requires
-    returns-3
     enum-told-4
     open-requires-2
+    returns-2
+    returns-3
     returns-4
-    returns-5
-    returns-6
-    returns-7)
+    returns-5)

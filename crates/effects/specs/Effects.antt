@@ -6,7 +6,7 @@ use Rattle.face.specs.Face.{withHot}
 use Rattle.face.specs.declared.Seen.{Seen}
 use Rattle.face.specs.declared.Answer.{Answer}
 use Rattle.face.specs.declared.Face.{Face}
-use Rattle.password.specs.declared.Acted.{Acted}
+use Rattle.effects.specs.declared.Acted.{Acted}
 
 -- what an action leaves of a disk, and what it shows
 abbrev pub acted : Face → Secrets → Answer → ℕ → Acted

@@ -3,8 +3,8 @@ use Rattle.recording.proofs.Opening.{gives-open}
 use borrow.Author.Needs.{needs}
 use lib.ListN.{length-set}
 use mathlib.Core.Path.{_∙_}
-use Rattle.recording.proofs.opened.Statement.{statement}
-use Rattle.recording.proofs.opened.Tie as tie
+use Rattle.recording.proofs.behind_version.Statement.{statement}
+use Rattle.recording.proofs.behind_version.Tie as tie
 
 slice-write-out : tie.Need-slice-write-out
 slice-write-out c = search needs
@@ -24,7 +24,7 @@ same-length-2 c = c .before .out .given ∙ length-set (c .before .before .befor
 returns : tie.Need-returns
 returns c = gives-open _ _ _ (c .before .before .before .before .before .before .before .before .before .before .before .args .rec .now) (c .before .before .before .before .before .before .before .before .before .before .before .args .out .now) _ _ _ (c .before .before .before .before .before .before .before .before .before .before .before .pre .1 .1) (rw (c .before .before .before .before .before .before .before .halt .ensures) at (c .before .before .before .before .play .ensures))
 
-pub opened-spec : {M : Type 1} → statement M
-opened-spec =
+pub behind-version-spec : {M : Type 1} → statement M
+behind-version-spec =
     tie.close
     (tie.spec slice-write-out halt-requires play-requires same-length same-length-2 returns)
