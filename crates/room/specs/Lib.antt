@@ -1,0 +1,5 @@
+pub mod Sessions
+pub mod Blocks
+pub mod Started
+pub mod Guest
+pub mod Claims
