@@ -1,1 +1,4 @@
+pub mod Kept
 pub mod GuestStep
+pub mod Started
+pub mod Secrecy

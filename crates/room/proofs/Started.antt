@@ -1,0 +1,49 @@
+-- A start makes the face anew from geometry, identity, level and enabled mark, so just powered-on devices that agree on these have the same face.
+use mathlib.Core.Path.{_≡_, refl, sym, ap, _∙_}
+use mathlib.Core.Bool.{Bool, true}
+use mathlib.Core.List.{List}
+use Prim.Native.Nat.{ℕ}
+use lib.ListN.{length, length-replicate}
+use Rattle.block.specs.Sectors.{zeroBlock}
+use Rattle.lock.specs.Lock.{isLocked, startingLock}
+use Rattle.face.specs.declared.Face.{Face}
+use Rattle.face.specs.declared.Action.the-variants.{HardwareReset, PowerOn}
+use Rattle.fastpath.specs.Dev.{ignoredOf}
+use Rattle.disk.specs.Actions.{actOf}
+use Rattle.device.specs.Alone.{Step, aloneOf}
+use Rattle.device.specs.Host.{Ready, stepOf}
+use Rattle.device.specs.declared.Device.{Device}
+use Rattle.laws.proofs.Steps.{ready-step}
+use Rattle.laws.proofs.Lengths.{Whole}
+use Rattle.room.specs.Started.{startedFace}
+use Rattle.room.specs.Claims.{securityIn, JustPoweredOn, Guarded, AlikeOutside, StartedAlike, LeavesNothingElse}
+
+-- what power-on and hardware reset leave
+pub leaves-nothing-else : LeavesNothingElse stepOf
+unfolding aloneOf ignoredOf actOf
+leaves-nothing-else d m k = record { by-power-on = ready-step d m PowerOn k; by-hardware-reset = ready-step d m HardwareReset k }
+
+-- the face that a start would make of a device
+abbrev pub restartedFace : Device → Face
+restartedFace d = startedFace (d .face .settled .geometry) (d .face .settled .identity) (securityIn d .maximum) (securityIn d .enabled)
+
+-- a just powered-on device has it
+pub started-face : (d : Device) → JustPoweredOn stepOf d → d .face ≡ restartedFace d
+started-face d p =
+    let e = sym (ap (λ (s : Step). s .outcome .device) (leaves-nothing-else (p .before) (p .memory) (p .ready) .by-power-on)) ∙ p .left in
+    sym (ap (λ (y : Device). y .face) e) ∙ ap restartedFace e
+
+pub guarded-face : {d : Device} {m : List ℕ} → Guarded stepOf d m
+    → d .face ≡ startedFace (d .face .settled .geometry) (d .face .settled .identity) (securityIn d .maximum) true
+guarded-face {d} g =
+    started-face d (g .started)
+    ∙ ap (λ (b : Bool). startedFace (d .face .settled .geometry) (d .face .settled .identity) (securityIn d .maximum) b) (g .enabled)
+
+pub guarded-locked : {d : Device} {m : List ℕ} → Guarded stepOf d m → isLocked (securityIn d .lock) ≡ true
+unfolding startingLock
+guarded-locked g = ap (λ (f : Face). isLocked (f .settled .security .lock)) (guarded-face g)
+
+-- so its buffer is a block
+pub started-whole : (d : Device) (m : List ℕ) → Ready d m → JustPoweredOn stepOf d → Whole d m
+unfolding zeroBlock
+started-whole d m k p = record { ready = k; block = ap (λ (f : Face). length (f .buffer)) (started-face d p) ∙ length-replicate {A = ℕ} 512 0 }
