@@ -5,4 +5,5 @@ pub mod Stored
 pub mod Endings
 pub mod Opens
 pub mod ReadBack
+pub mod Settling
 pub mod Built

@@ -148,7 +148,7 @@ initialize-free f (To t) e u =
 initialize-free f Aborted e u = record { sound = u .sound; free = u .free; fits = refl }
 
 -- what the stations told of a lock state
-not-locked-open : (l : Lock) → notLocked l ≡ true → isLocked l ≡ false
+pub not-locked-open : (l : Lock) → notLocked l ≡ true → isLocked l ≡ false
 not-locked-open Open e = refl
 not-locked-open Locked e = absurd (false≢true e)
 not-locked-open Frozen e = refl
