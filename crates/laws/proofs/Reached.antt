@@ -233,7 +233,7 @@ placed-alone h f c e p = go (p .is)
     go (inr a) = clear-alone (f .hot) (dev-at h (f .hot) a c)
 
 -- where a transfer is open, DEV is clear
-open-clear : (h : Hot) → aloneFits h ≡ true → isIdle (h .transfer) ≡ false → devSet h ≡ false
+pub open-clear : (h : Hot) → aloneFits h ≡ true → isIdle (h .transfer) ≡ false → devSet h ≡ false
 open-clear h e o = go (alone-clauses h e)
   where
     go : (devSet h ≡ false) ⊎ ((h .signals .held ≡ false) × (isIdle (h .transfer) ≡ true)) → devSet h ≡ false

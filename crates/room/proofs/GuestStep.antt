@@ -38,10 +38,11 @@ use Rattle.shape.proofs.Clauses.{Fits, shape-clauses}
 use Rattle.effects.specs.Effects.{acted, Effect, effect}
 use Rattle.password.specs.Passwords.{passwordLast, passwordLastSectors, passwordWord, passwordWordSectors, judgedActed, judgementOf, sectorsAs}
 use Rattle.disk.specs.Actions.{toldActed, writeRegisterOf, writeWordAs, writeWordOf, actOf}
-use Rattle.device.specs.Alone.{stepAs, Step, aloneOf}
+use Rattle.device.specs.Alone.{shown, stepAs, actedOf, Step, aloneOf}
 use Rattle.device.specs.Host.{Ready, stepOf}
 use Rattle.device.specs.declared.Device.{Device}
 use Rattle.device.proofs.Memories.{shaped-disk}
+use Rattle.laws.proofs.Shape.{not-locked-open}
 use Rattle.laws.proofs.Settling.{drop-settles}
 use Rattle.laws.proofs.Steps.{ready-step}
 use Rattle.room.specs.Blocks.{completedAs, completedOf, unlockAccepts, eraseAccepts, blockAccepted, acceptedOf}
@@ -51,15 +52,10 @@ use Rattle.room.proofs.Kept.{locked-closed}
 
 -- ---- commands: locked, none looks at the sectors
 
-not-locked : (l : Lock) → isLocked l ≡ true → notLocked l ≡ true → ⊥
-not-locked Open h e = false≢true h
-not-locked Locked h e = false≢true e
-not-locked Frozen h e = false≢true h
-
 run-guest : (f : Face) (m : List ℕ) (k : Command) → isLocked (f .settled .security .lock) ≡ true → runsIn k (f .settled .security .lock) ≡ true → runOf f m k ≡ runOf f [] k
 run-guest f m Unknown h e = refl
 run-guest f m Recalibrate h e = refl
-run-guest f m ReadSectors h e = absurd (not-locked (f .settled .security .lock) h e)
+run-guest f m ReadSectors h e = absurd (false≢true (sym (not-locked-open (f .settled .security .lock) e) ∙ h))
 run-guest f m WriteSectors h e = refl
 run-guest f m VerifySectors h e = refl
 run-guest f m Seek h e = refl
@@ -172,7 +168,11 @@ guestLeaves d m a = stepAs (effect (toldActed (d .secrets) (guestStep (d .face) 
 
 alone-guest : (d : Device) (m : List ℕ) (a : Action) → actOf (d .face) (d .secrets) m a ≡ effect (toldActed (d .secrets) (guestAct (d .face) a)) m → aloneOf d m a ≡ guestLeaves d m a
 unfolding aloneOf guestStep
-alone-guest d m a e = either-way (ignoredOf (d .face .hot) a) (λ q. simp q) (λ q. simp (q, e))
+alone-guest d m a e = go (ignoredOf (d .face .hot) a)
+  where
+    go : (b : Bool) → pick b (shown d m Done 0) (actedOf d m a) ≡ stepAs (effect (toldActed (d .secrets) (pick b (told (d .face) Done 0) (guestAct (d .face) a))) m)
+    go true = refl
+    go false = ap stepAs e
 
 pub step-guest : (d : Device) (m : List ℕ) (a : Action) → Ready d m → isLocked (securityIn d .lock) ≡ true → acceptedOf d a ≡ false → stepOf d m a ≡ guestLeaves d m a
 unfolding acceptedOf

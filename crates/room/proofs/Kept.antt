@@ -2,10 +2,10 @@
 use mathlib.Core.Path.{_≡_, refl, sym, ap, _∙_}
 use mathlib.Core.Bool.{Bool, true, false}
 use mathlib.Core.List.{List, []}
-use Prim.Native.Nat.{ℕ}
+use Prim.Native.Nat.{ℕ, _-_}
 use lib.Dec.{eqb, ltb}
 use Rattle.base.proofs.Tests.{false≢true, pick-both}
-use Rattle.lock.specs.Lock.{isLocked, startingLock}
+use Rattle.lock.specs.Lock.{isLocked, withAttempts, startingLock}
 use Rattle.lock.specs.declared.Security.{Security}
 use Rattle.lock.specs.declared.Purpose.{Purpose}
 use Rattle.lock.specs.declared.Purpose.the-variants.{Set, Unlock, Erase, Disable}
@@ -33,7 +33,7 @@ locked-closed =
 
 mismatched-locked : (s : Security) → isLocked (s .lock) ≡ true → isLocked (mismatchedOf s .lock) ≡ true
 unfolding mismatchedOf
-mismatched-locked s h = pick-both (λ (t : Security). isLocked (t .lock) ≡ true) _ _ _ h h
+mismatched-locked s h = pick-both (λ (t : Security). isLocked (t .lock) ≡ true) (ltb 0 (s .attempts)) (withAttempts s (s .attempts - 1)) s h h
 
 refused-locked : (s : Security) (b : List ℕ) (p : Purpose) → isLocked (s .lock) ≡ true → isLocked (refusedSecurity s b p .lock) ≡ true
 refused-locked s b Set h = h

@@ -2,3 +2,4 @@ pub mod Kept
 pub mod GuestStep
 pub mod Started
 pub mod Secrecy
+pub mod Forgetting
