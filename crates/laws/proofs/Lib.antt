@@ -7,3 +7,4 @@ pub mod Opens
 pub mod ReadBack
 pub mod Settling
 pub mod Built
+pub mod Steps
