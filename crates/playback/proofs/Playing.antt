@@ -11,6 +11,7 @@ use Rattle.face.specs.declared.Action.{Action}
 use Rattle.device.specs.Alone.{Step, aloneOf}
 use Rattle.device.specs.Host.{stepOf}
 use Rattle.device.specs.declared.Device.{Device}
+use Rattle.laws.proofs.Steps.{ready-step, ready-after}
 use Rattle.records.specs.Records.{nextOf}
 use Rattle.records.specs.declared.Found.{Found}
 use Rattle.records.specs.declared.Found.the-variants.{Record}
@@ -18,7 +19,6 @@ use Rattle.records.proofs.Stores.{write-behind}
 use Rattle.records.proofs.Rest.{rest-within}
 use Rattle.playback.specs.Replay.{Play, onto, answered, playAs, playOf}
 use Rattle.playback.specs.Loops.{Playing}
-use Rattle.playback.proofs.Steps.{ready-step, ready-after}
 
 -- ---- one record of the definition
 

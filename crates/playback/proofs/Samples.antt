@@ -21,9 +21,9 @@ use Rattle.device.specs.declared.Device.{Device}
 use Rattle.device.specs.declared.Outcome.{Outcome}
 use Rattle.laws.proofs.Refusals.{setup-within}
 use Rattle.laws.proofs.Reached.{fresh-shaped}
+use Rattle.laws.proofs.Steps.{ready-step}
 use Rattle.records.specs.Records.{lengthOf, payloadOf, twoBytes, nextOf}
 use Rattle.playback.specs.Replay.{spaces, replayDevice, zeroSectors, answered, playAs, playOf, recordsReply, replyFrom, replyOf}
-use Rattle.playback.proofs.Steps.{ready-step}
 
 -- ---- the device
 
