@@ -1,13 +1,16 @@
 -- A device in shape over its memory stays so, and its host action is the action itself.
 use Prim.Native.Nat.{ℕ, _*_}
+use mathlib.Core.Bool.{false}
 use mathlib.Core.Path.{_≡_, sym, ap, _∙_}
 use mathlib.Core.List.{List}
 use lib.ListN.{length}
 use borrow.Author.Tests.{eq-eqb}
+use Rattle.base.proofs.Tests.{either-way}
 use Rattle.geometry.specs.Geometry.{capacityOf}
 use Rattle.geometry.specs.declared.Geometry.{Geometry}
 use Rattle.face.specs.declared.Action.{Action}
-use Rattle.device.specs.Alone.{Step, aloneOf}
+use Rattle.fastpath.specs.Dev.{devSet, unansweredOf, ignoredOf}
+use Rattle.device.specs.Alone.{Step, actedOf, aloneOf}
 use Rattle.device.specs.Host.{Ready, shapedOf, stepOf, memoryLength}
 use Rattle.device.specs.declared.Device.{Device}
 use Rattle.laws.proofs.Reached.{alone-shaped}
@@ -25,3 +28,8 @@ ready-after d m a e k h l =
           l ∙ k .long ∙ sym (ap (λ (g : Geometry). 512 * capacityOf g) (alone-built d m a .geometry))
           ∙ ap (λ (s : Step). memoryLength (s .outcome .device)) h;
     }
+
+-- with DEV clear every action is the disk's
+pub clear-acts : (d : Device) (m : List ℕ) (a : Action) → devSet (d .face .hot) ≡ false → aloneOf d m a ≡ actedOf d m a
+unfolding aloneOf ignoredOf
+clear-acts d m a e = either-way (unansweredOf a) (λ q. simp (q, e)) (λ q. simp q)

@@ -25,7 +25,7 @@ use Rattle.face.specs.declared.Action.the-variants.{ReadRegister, WriteRegister
 use Rattle.face.specs.declared.Answer.the-variants.{Done}
 use Rattle.resets.specs.Resets.{dropAs, droppedOf}
 use Rattle.resets.specs.Control.{srstOf, controlOf}
-use Rattle.fastpath.specs.Dev.{devSet, unansweredOf, ignoredOf}
+use Rattle.fastpath.specs.Dev.{devSet, ignoredOf}
 use Rattle.transfers.specs.Words.{told, wordIn}
 use Rattle.transfers.specs.declared.Told.{Told}
 use Rattle.commands.specs.Gate.{begunOf, stationsOf, commandOf}
@@ -34,13 +34,13 @@ use Rattle.shape.proofs.Clauses.{shape-clauses}
 use Rattle.password.specs.Passwords.{passwordEnded, endedAs}
 use Rattle.effects.specs.Effects.{effect}
 use Rattle.disk.specs.Actions.{toldActed, writeRegisterOf, actOf}
-use Rattle.device.specs.Alone.{Step, stepAs, actedOf, aloneOf}
+use Rattle.device.specs.Alone.{Step, stepAs, aloneOf}
 use Rattle.device.specs.Host.{Ready, shapedOf, stepOf}
 use Rattle.device.specs.declared.Device.{Device}
 use Rattle.device.proofs.Memories.{shaped-disk}
 use Rattle.laws.proofs.Reached.{open-clear}
 use Rattle.laws.proofs.Opens.{blockWith, last-word}
-use Rattle.laws.proofs.Steps.{ready-step}
+use Rattle.laws.proofs.Steps.{ready-step, clear-acts}
 use Rattle.room.specs.Claims.{holding, dropsBlock, BlockForgotten, ForgetsBlocks}
 
 -- ---- judged
@@ -75,11 +75,6 @@ command-forgets f c m code b e h = simp h (ap (λ (g : Face). stationsOf g m cod
 open-held : (h : Hot) → heldFits h ≡ true → isIdle (h .transfer) ≡ false → h .signals .held ≡ false
 unfolding heldFits
 open-held h e o = either-way (h .signals .held) (λ q. absurd (false≢true (sym o ∙ (simp q at e)))) (λ q. q)
-
--- with DEV clear every action is the disk's
-clear-acts : (d : Device) (m : List ℕ) (a : Action) → devSet (d .face .hot) ≡ false → aloneOf d m a ≡ actedOf d m a
-unfolding aloneOf ignoredOf
-clear-acts d m a e = either-way (unansweredOf a) (λ q. simp (q, e)) (λ q. simp q)
 
 register-forgets : (d : Device) (m c : List ℕ) (n v : ℕ) → devSet (d .face .hot) ≡ false → writeRegisterOf (d .face) m n v ≡ writeRegisterOf (withBuffer (d .face) c) m n v
     → aloneOf d m (WriteRegister n v) ≡ aloneOf (holding d c) m (WriteRegister n v)

@@ -3,3 +3,5 @@ pub mod GuestStep
 pub mod Started
 pub mod Secrecy
 pub mod Forgetting
+pub mod Counting
+pub mod Shutting

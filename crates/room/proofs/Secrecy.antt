@@ -41,7 +41,7 @@ guest-ready d m a k e = ready-after d m a (guestLeaves d m a) k (sym (ready-step
 
 -- ---- any actions
 
-never-first : (b x : Bool) → pick b false x ≡ true → (b ≡ false) × (x ≡ true)
+pub never-first : (b x : Bool) → pick b false x ≡ true → (b ≡ false) × (x ≡ true)
 never-first true x e = absurd (false≢true e)
 never-first false x e = (refl, e)
 
