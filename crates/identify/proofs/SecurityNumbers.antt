@@ -2,25 +2,16 @@
 use Prim.Native.Nat.{ℕ, _<_}
 use mathlib.Core.Path.{_≡_, refl}
 use mathlib.Core.Bool.{Bool, true, false}
-use native.Mathlib.Omega.{arith}
-use borrow.Author.Tests.{ne-eqb}
 use Rattle.lock.specs.Lock.{exhaustedOf}
 use Rattle.lock.specs.declared.Lock.{Lock}
 use Rattle.lock.specs.declared.Lock.the-variants.{Open, Locked, Frozen}
 use Rattle.lock.specs.declared.Security.{Security}
+use Rattle.lock.proofs.Sound.{attempts-left}
 use Rattle.identify.specs.SecurityWord.{securityWord}
 
 -- security settings of that lock, enabled mark and level, with so many attempts left, prepared or not
 abbrev pub settings : Lock → Bool → Bool → ℕ → Bool → Security
 settings l e m a p = record { lock = l; enabled = e; maximum = m; attempts = a; prepared = p }
-
--- one attempt or more is left
-left : (s : Security) → 0 < s .attempts → exhaustedOf s ≡ false
-unfolding exhaustedOf
-left s h = ne-eqb (s .attempts) 0 some
-  where
-    some : s .attempts ≡ 0 → ⊥
-    some q = omega arith
 
 -- "(7) word 128 fresh 0001h; (8) locked High 0007h; (9) locked Maximum, no attempts, 0117h; (10) frozen, enabled, High 000Bh"; a is how many attempts are left
 pub record SecurityNumbers : Type 0 where
@@ -35,7 +26,7 @@ unfolding securityWord exhaustedOf
 security-numbers =
     record {
       number7 = refl;
-      number8 = λ a p h. rw (left (settings Locked true false a p) h);
+      number8 = λ a p h. rw (attempts-left (settings Locked true false a p) h);
       number9 = λ p. refl;
-      number10 = λ a p h. rw (left (settings Frozen true false a p) h);
+      number10 = λ a p h. rw (attempts-left (settings Frozen true false a p) h);
     }

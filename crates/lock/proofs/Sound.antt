@@ -1,13 +1,13 @@
 -- Security settings in shape, said by their bounds; F3h, F5h, the end of a preparation and a reset keep them so.
 use mathlib.Core.Bool.{Bool, true, false, not}
 use mathlib.Core.Path.{_≡_, refl}
-use Prim.Native.Nat.{_≤_}
+use Prim.Native.Nat.{_≤_, _<_}
 use native.Mathlib.Omega.{arith}
-use borrow.Author.Tests.{le-leb, leb-true}
+use borrow.Author.Tests.{le-leb, leb-true, ne-eqb, eqb-false}
 use lib.Dec.{leb}
 use Rattle.base.specs.Choice.{pick}
 use Rattle.base.proofs.Tests.{false≢true, both-true}
-use Rattle.lock.specs.Lock.{isOpen, isLocked, frozenOf, preparedOf, unpreparedOf, startingLock, poweredOn, securityFits}
+use Rattle.lock.specs.Lock.{isOpen, isLocked, frozenOf, preparedOf, unpreparedOf, startingLock, poweredOn, exhaustedOf, securityFits}
 use Rattle.lock.specs.declared.Lock.the-variants.{Open, Locked}
 use Rattle.lock.specs.declared.Security.{Security}
 
@@ -74,3 +74,18 @@ power-on-sound s = record { few = omega arith; sure = go (s .enabled) refl }
     go : (b : Bool) → s .enabled ≡ b → isLocked (poweredOn s .lock) ≡ true → s .enabled ≡ true
     go true e l = e
     go false e l = absurd (false≢true (rw e at l))
+
+-- attempts are left, or none is
+pub attempts-left : (s : Security) → 0 < s .attempts → exhaustedOf s ≡ false
+unfolding exhaustedOf
+attempts-left s h = ne-eqb (s .attempts) 0 some
+  where
+    some : s .attempts ≡ 0 → ⊥
+    some q = omega arith
+
+pub left-attempts : (s : Security) → exhaustedOf s ≡ false → 0 < s .attempts
+unfolding exhaustedOf
+left-attempts s e = some (eqb-false (s .attempts) 0 e)
+  where
+    some : (s .attempts ≡ 0 → ⊥) → 0 < s .attempts
+    some k = omega arith

@@ -5,7 +5,7 @@ use mathlib.Core.List.{List, [], _∷_}
 use Prim.Native.Nat.{ℕ, _+_, _-_, _<_}
 use native.Mathlib.Omega.{arith}
 use lib.Dec.{eqb, ltb}
-use borrow.Author.Tests.{lt-ltb, eqb-false}
+use borrow.Author.Tests.{lt-ltb}
 use Rattle.base.specs.Choice.{pick}
 use Rattle.base.proofs.Tests.{zero≢one, false≢true, pick-both, pick-each, either-way}
 use Rattle.lock.specs.Lock.{isLocked, isFrozen, exhaustedOf}
@@ -13,6 +13,7 @@ use Rattle.lock.specs.declared.Security.{Security}
 use Rattle.lock.specs.declared.Secrets.{Secrets}
 use Rattle.lock.specs.declared.Purpose.{Purpose}
 use Rattle.lock.specs.declared.Purpose.the-variants.{Set, Unlock, Erase, Disable}
+use Rattle.lock.proofs.Sound.{left-attempts}
 use Rattle.judging.specs.Passwords.{masterPicked, matchesOf}
 use Rattle.judging.specs.Judging.{mismatchedOf, setOf, masterAtMaximum, unlockLocked, unlockOf, acceptsOf, eraseOf, disableOf, judgeOf}
 use Rattle.judging.specs.declared.Judged.{Judged}
@@ -62,13 +63,10 @@ five-left {s} {t} {n} e p = record { is = ap (λ (k : ℕ). k + n) e ∙ p .is }
 
 -- where a mismatch is counted an attempt is there to take
 mismatched-five : (s : Security) (n : ℕ) → exhaustedOf s ≡ false → Five s n → Five (mismatchedOf s) (n + 1)
-unfolding exhaustedOf mismatchedOf
+unfolding mismatchedOf
 mismatched-five s n e p =
-    let some : 0 < s .attempts = positive (eqb-false (s .attempts) 0 e) in
+    let some : 0 < s .attempts = left-attempts s e in
     rw (lt-ltb 0 (s .attempts) some) (record { is = let h : s .attempts + n ≡ 5 = p .is in omega arith })
-  where
-    positive : (s .attempts ≡ 0 → ⊥) → 0 < s .attempts
-    positive k = omega arith
 
 unlock-fits : (frozen none : Bool) → pick frozen false (not none) ≡ true → none ≡ false
 unlock-fits true none e = absurd (false≢true e)

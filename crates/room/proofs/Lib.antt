@@ -5,3 +5,4 @@ pub mod Secrecy
 pub mod Forgetting
 pub mod Counting
 pub mod Shutting
+pub mod Opening
