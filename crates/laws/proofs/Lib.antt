@@ -5,6 +5,8 @@ pub mod Stored
 pub mod Endings
 pub mod Opens
 pub mod ReadBack
+pub mod Lasting
 pub mod Settling
 pub mod Built
 pub mod Steps
+pub mod Lengths

@@ -19,7 +19,6 @@ use Rattle.successor.specs.Successor.{successorOf}
 use Rattle.address.specs.declared.AddressRegisters.{AddressRegisters}
 use Rattle.address.specs.declared.Address.{Address}
 use Rattle.address.specs.declared.Address.the-variants.{Names, Faults}
-use Rattle.address.specs.declared.Sector.{Sector}
 use Rattle.lock.specs.Lock.{securityFits}
 use Rattle.lock.specs.declared.Secrets.{Secrets}
 use Rattle.lock.specs.declared.Purpose.{Purpose}
@@ -68,7 +67,7 @@ use Rattle.device.specs.Host.{aloneFits, shapedOf, memoryLength, stepOf}
 use Rattle.device.specs.Setup.{zeroDevice, freshOf}
 use Rattle.device.specs.declared.Device.{Device}
 use Rattle.device.proofs.Memories.{shaped-disk}
-use Rattle.laws.proofs.Shape.{drop-leaves, act-fits, power-on-fits, command-held, read-word-held, write-word-held}
+use Rattle.laws.proofs.Shape.{address-each, drop-leaves, act-fits, power-on-fits, command-held, read-word-held, write-word-held}
 
 -- ---- where a transfer is open after a command or a word, the address is the host's
 
@@ -86,22 +85,17 @@ not-found-placed : {at : AddressRegisters} (f : Face) (r : Run) → Placed at (n
 unfolding notFoundOf
 not-found-placed f r = idle refl
 
--- a sector is reached: its address names it, or faults
-address-placed : {at : AddressRegisters} (k : Address → Face) → ((x : Sector) → Placed at (k (Names x))) → Placed at (k Faults) → (a : Address) → Placed at (k a)
-address-placed k named faults (Names x) = named x
-address-placed k named faults Faults = faults
-
 read-at-placed : (f : Face) (m : List ℕ) (r : Run) → Placed (f .hot .regs .at) (readAt f m r)
 unfolding readAt
-read-at-placed f m r = address-placed (readAs f m r) (λ x. stays refl) (not-found-placed f r) (located (f .settled) (r .at))
+read-at-placed f m r = address-each (Placed (f .hot .regs .at)) (readAs f m r) (located (f .settled) (r .at)) (λ x e. stays refl) (not-found-placed f r)
 
 write-at-placed : (f : Face) (r : Run) → Placed (f .hot .regs .at) (writeAt f r)
 unfolding writeAt
-write-at-placed f r = address-placed (writeAs f r) (λ x. stays refl) (not-found-placed f r) (located (f .settled) (r .at))
+write-at-placed f r = address-each (Placed (f .hot .regs .at)) (writeAs f r) (located (f .settled) (r .at)) (λ x e. stays refl) (not-found-placed f r)
 
 want-at-placed : (f : Face) (r : Run) → Placed (f .hot .regs .at) (wantAt f r)
 unfolding wantAt
-want-at-placed f r = address-placed (wantAs f r) (λ x. stays refl) (not-found-placed f r) (located (f .settled) (r .at))
+want-at-placed f r = address-each (Placed (f .hot .regs .at)) (wantAs f r) (located (f .settled) (r .at)) (λ x e. stays refl) (not-found-placed f r)
 
 verify-idle : (f : Face) (r : Run) (rest : Face) (a : Address) → isIdle (rest .hot .transfer) ≡ true → isIdle (verifyAs f r rest a .hot .transfer) ≡ true
 unfolding notFoundOf

@@ -103,28 +103,24 @@ unfolding runFits
 run-fits s r x e n l = rw l (ap isNamed e ∙ n)
 
 -- a sector is reached: its address names it, or faults
-address-free : (f : Face) (r : Run) (k : Address → Face) → ((x : Sector) → located (f .settled) (r .at) ≡ Names x → Free (k (Names x))) → Free (k Faults)
-    → Free (k (located (f .settled) (r .at)))
-address-free f r k named faults = go (located (f .settled) (r .at)) refl
-  where
-    go : (a : Address) → located (f .settled) (r .at) ≡ a → Free (k a)
-    go (Names x) e = named x e
-    go Faults e = faults
+pub address-each {ℓ k} : {A : Type ℓ} (P : A → Type k) (g : Address → A) (a : Address) → ((x : Sector) → a ≡ Names x → P (g (Names x))) → P (g Faults) → P (g a)
+address-each P g (Names x) named faults = named x refl
+address-each P g Faults named faults = faults
 
 read-at-free : (f : Face) (m : List ℕ) (r : Run) → Running f → isLocked (f .settled .security .lock) ≡ false → Free (readAt f m r)
 unfolding readAt
 read-at-free f m r u l =
-    address-free f r (readAs f m r) (λ x e. record { sound = u .sound; free = u .free; fits = run-fits (f .settled) r (Names x) e refl l }) (not-found-free f r u)
+    address-each Free (readAs f m r) (located (f .settled) (r .at)) (λ x e. record { sound = u .sound; free = u .free; fits = run-fits (f .settled) r (Names x) e refl l }) (not-found-free f r u)
 
 write-at-free : (f : Face) (r : Run) → Running f → isLocked (f .settled .security .lock) ≡ false → Free (writeAt f r)
 unfolding writeAt
 write-at-free f r u l =
-    address-free f r (writeAs f r) (λ x e. record { sound = u .sound; free = u .free; fits = run-fits (f .settled) r (Names x) e refl l }) (not-found-free f r u)
+    address-each Free (writeAs f r) (located (f .settled) (r .at)) (λ x e. record { sound = u .sound; free = u .free; fits = run-fits (f .settled) r (Names x) e refl l }) (not-found-free f r u)
 
 want-at-free : (f : Face) (r : Run) → Running f → isLocked (f .settled .security .lock) ≡ false → Free (wantAt f r)
 unfolding wantAt
 want-at-free f r u l =
-    address-free f r (wantAs f r) (λ x e. record { sound = u .sound; free = u .free; fits = run-fits (f .settled) r (Names x) e refl l }) (not-found-free f r u)
+    address-each Free (wantAs f r) (located (f .settled) (r .at)) (λ x e. record { sound = u .sound; free = u .free; fits = run-fits (f .settled) r (Names x) e refl l }) (not-found-free f r u)
 
 verify-as-free : (f : Face) (r : Run) (rest : Face) (a : Address) → Running f → Free rest → Free (verifyAs f r rest a)
 verify-as-free f r rest (Names x) u k = k
