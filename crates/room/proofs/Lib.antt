@@ -6,3 +6,4 @@ pub mod Forgetting
 pub mod Counting
 pub mod Shutting
 pub mod Opening
+pub mod FiveMismatches

@@ -14,6 +14,7 @@ use Rattle.device.specs.Alone.{Step, aloneOf}
 use Rattle.device.specs.Host.{Ready, stepOf}
 use Rattle.device.specs.declared.Device.{Device}
 use Rattle.laws.proofs.Steps.{ready-step}
+use Rattle.laws.proofs.Lengths.{Whole}
 use Rattle.room.specs.Started.{startedFace}
 use Rattle.room.specs.Claims.{securityIn, JustPoweredOn, Guarded, AlikeOutside, StartedAlike, LeavesNothingElse}
 
@@ -41,3 +42,8 @@ guarded-face {d} g =
 pub guarded-locked : {d : Device} {m : List ℕ} → Guarded stepOf d m → isLocked (securityIn d .lock) ≡ true
 unfolding startingLock
 guarded-locked g = ap (λ (f : Face). isLocked (f .settled .security .lock)) (guarded-face g)
+
+-- so its buffer is a block
+pub started-whole : (d : Device) (m : List ℕ) → Ready d m → JustPoweredOn stepOf d → Whole d m
+unfolding zeroBlock
+started-whole d m k p = record { ready = k; block = ap (λ (f : Face). length (f .buffer)) (started-face d p) ∙ length-replicate {A = ℕ} 512 0 }
