@@ -86,7 +86,7 @@ judge-five s x Unlock b n k p =
 judge-five s x Erase b n k p = five-left (pick-both (λ (j : Judged). j .security .attempts ≡ s .attempts) (acceptsOf s x b) _ _ refl refl) p
 judge-five s x Disable b n k p = five-left (pick-both (λ (j : Judged). j .security .attempts ≡ s .attempts) (acceptsOf s x b) _ _ refl refl) p
 
-ended-security : (f : Face) (s : Security) (v : Verdict) → endedAs (passwordEnded f s) v .settled .security ≡ s
+pub ended-security : (f : Face) (s : Security) (v : Verdict) → endedAs (passwordEnded f s) v .settled .security ≡ s
 ended-security f s EndsWell = refl
 ended-security f s Aborts = refl
 ended-security f s Erases = refl

@@ -7,3 +7,4 @@ pub mod Counting
 pub mod Shutting
 pub mod Opening
 pub mod FiveMismatches
+pub mod Acceptance

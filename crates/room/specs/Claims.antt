@@ -1,7 +1,7 @@
 -- What is claimed of the device: demand 3, five mismatches, what power-on and a password block leave. Each is said of any rules, so that it can be proved of the device's and refuted of wrong ones.
 use Prim.Native.Nat.{ℕ, _+_, _≤_, _<_}
 use mathlib.Core.Path.{_≡_}
-use mathlib.Core.Bool.{Bool, true, false}
+use mathlib.Core.Bool.{Bool, true, false, not}
 use mathlib.Core.List.{List, [], _∷_, map}
 use lib.Dec.{eqb}
 use lib.ListN.{length}
@@ -27,8 +27,9 @@ use Rattle.device.specs.Alone.{deviceOf, Step}
 use Rattle.device.specs.Host.{Ready}
 use Rattle.device.specs.declared.Device.{Device}
 use Rattle.laws.proofs.ReadBack.{putAll}
+use Rattle.laws.proofs.Lengths.{Whole}
 use Rattle.room.specs.Sessions.{Rules, Session, sessionOf}
-use Rattle.room.specs.Blocks.{neverAccepted, mismatchesFrom, neverRestarts}
+use Rattle.room.specs.Blocks.{acceptedOf, neverAccepted, mismatchesFrom, neverRestarts}
 use Rattle.room.specs.Started.{startedFace, startedStep}
 use Rattle.room.specs.Guest.{guestAnswers, guestFace}
 
@@ -73,6 +74,12 @@ abbrev pub KeepsTheSecret : Rules → Type 0
 KeepsTheSecret r =
     (d e : Device) (m n : List ℕ) (l : List Action) → Guarded r d m → Guarded r e n → AlikeOutside d e
     → neverAccepted r d m l ≡ true → neverAccepted r e n l ≡ true → SecretKept r d e m n l
+
+-- a block is accepted exactly where a locked device opens: the premise leaves out no more than demand 3 says
+abbrev pub AcceptedOpens : Rules → Type 0
+AcceptedOpens r =
+    (d : Device) (m : List ℕ) (a : Action) → Ready d m → isLocked (securityIn d .lock) ≡ true
+    → acceptedOf d a ≡ not (isLocked (securityIn (r d m a .outcome .device) .lock))
 
 -- stronger than demand 3 asks, and of any locked device in shape: answers and face are a function of face and actions alone
 abbrev pub AnswersByFace : Rules → Type 0
@@ -153,9 +160,15 @@ pub record StartedAlike (r : Rules) (d : Device) (m : List ℕ) : Type 0 where
   pub by-power-on : r d m PowerOn ≡ startedOf d m
   pub by-hardware-reset : r d m HardwareReset ≡ startedOf d m
 
--- whatever came before
+-- whatever state the device was in
 abbrev pub LeavesNothingElse : Rules → Type 0
 LeavesNothingElse r = (d : Device) (m : List ℕ) → Ready d m → StartedAlike r d m
+
+-- so whatever actions came before
+abbrev pub WhateverCameBefore : Rules → Type 0
+WhateverCameBefore r =
+    (d : Device) (m : List ℕ) (l : List Action) → Whole d m
+    → StartedAlike r (sessionOf r d m l .device) (sessionOf r d m l .sectors)
 
 -- the same device with other bytes in its buffer
 abbrev pub holding : Device → List ℕ → Device
