@@ -2,7 +2,7 @@
 use mathlib.Core.Path.{_≡_, refl, sym, ap, _∙_}
 use mathlib.Core.Bool.{Bool, true, false, not}
 use mathlib.Core.List.{List}
-use Prim.Native.Nat.{ℕ, _≤_}
+use Prim.Native.Nat.{ℕ}
 use lib.Dec.{ltb}
 use borrow.Author.Tests.{ltb-false}
 use Rattle.base.specs.Choice.{pick}
@@ -15,14 +15,10 @@ use Rattle.lock.specs.declared.Purpose.{Purpose}
 use Rattle.lock.specs.declared.Purpose.the-variants.{Set, Unlock, Erase, Disable}
 use Rattle.judging.specs.Passwords.{matchesOf}
 use Rattle.judging.specs.Judging.{masterAtMaximum, unlockLocked, unlockOf, acceptsOf, eraseOf, judgeOf}
-use Rattle.judging.specs.declared.Verdict.{Verdict}
-use Rattle.judging.specs.declared.Verdict.the-variants.{EndsWell, Aborts, Erases}
 use Rattle.face.specs.declared.Transfer.{Transfer}
 use Rattle.face.specs.declared.Transfer.the-variants.{Idle, Reading, Writing, ReadingBuffer, WritingBuffer, TakingPassword}
-use Rattle.face.specs.declared.Face.{Face}
 use Rattle.face.specs.declared.Action.{Action}
 use Rattle.face.specs.declared.Action.the-variants.{ReadRegister, WriteRegister, ReadWord, WriteWord, HardwareReset, PowerOn, Line}
-use Rattle.password.specs.Passwords.{passwordEnded, endedAs}
 use Rattle.transfers.specs.Words.{wordIn}
 use Rattle.device.specs.Alone.{Step}
 use Rattle.device.specs.Host.{Ready, stepOf}
@@ -31,7 +27,7 @@ use Rattle.laws.proofs.Opens.{blockWith, last-word}
 use Rattle.room.specs.Blocks.{completedAs, completedOf, unlockAccepts, eraseAccepts, blockAccepted, acceptedOf}
 use Rattle.room.specs.Claims.{securityIn, AcceptedOpens}
 use Rattle.room.proofs.Kept.{guest-locked}
-use Rattle.room.proofs.GuestStep.{guestLeaves, step-guest}
+use Rattle.room.proofs.GuestStep.{step-guest}
 use Rattle.room.proofs.Secrecy.{locked-enabled}
 use Rattle.room.proofs.Counting.{ended-security}
 

@@ -1,10 +1,10 @@
 -- Attempts: nothing but an UNLOCK mismatch while locked takes one, and nothing but a start gives any, so attempts left and mismatches are five together.
-use mathlib.Core.Path.{_≡_, refl, sym, ap, _∙_}
+use mathlib.Core.Path.{_≡_, refl, ap, _∙_}
 use mathlib.Core.Bool.{Bool, true, false, not}
-use mathlib.Core.List.{List, [], _∷_}
-use Prim.Native.Nat.{ℕ, _+_, _-_, _<_}
+use mathlib.Core.List.{List}
+use Prim.Native.Nat.{ℕ, _+_, _<_}
 use native.Mathlib.Omega.{arith}
-use lib.Dec.{eqb, ltb}
+use lib.Dec.{ltb}
 use borrow.Author.Tests.{lt-ltb}
 use Rattle.base.specs.Choice.{pick}
 use Rattle.base.proofs.Tests.{zero≢one, false≢true, pick-both, pick-each, either-way}
@@ -31,7 +31,6 @@ use Rattle.reading.specs.Words.{readWordOf}
 use Rattle.fastpath.specs.Dev.{ignoredOf}
 use Rattle.shape.specs.Shape.{passwordFits, transferFits}
 use Rattle.shape.proofs.Clauses.{shape-clauses}
-use Rattle.effects.specs.declared.Acted.{Acted}
 use Rattle.password.specs.Passwords.{passwordEnded, endedAs, judgementOf, passwordLast, passwordWord}
 use Rattle.disk.specs.Actions.{writeWordAs, writeWordOf, actOf}
 use Rattle.device.specs.Alone.{Step, aloneOf}
@@ -40,10 +39,8 @@ use Rattle.device.specs.declared.Device.{Device}
 use Rattle.device.proofs.Memories.{shaped-disk}
 use Rattle.laws.proofs.Settling.{Closed, write-register-settles, read-word-settles, write-word-settles}
 use Rattle.laws.proofs.Steps.{ready-step}
-use Rattle.room.specs.Sessions.{sessionOf}
-use Rattle.room.specs.Blocks.{completedAs, completedOf, unlockMismatch, mismatchOf, restarts, countedOf, mismatchesFrom}
-use Rattle.room.specs.Claims.{securityIn, JustPoweredOn, AttemptsCounted}
-use Rattle.room.proofs.Started.{started-face}
+use Rattle.room.specs.Blocks.{completedAs, completedOf, unlockMismatch, mismatchOf, countedOf}
+use Rattle.room.specs.Claims.{securityIn}
 
 -- so many attempts are left
 abbrev pub Left : ℕ → Settled → Type 0

@@ -31,7 +31,7 @@ use Rattle.room.proofs.GuestStep.{guestLeaves, step-guest}
 use Rattle.room.proofs.Started.{started-face, started-whole}
 use Rattle.room.proofs.Secrecy.{locked-enabled}
 use Rattle.room.proofs.Counting.{Five, step-five}
-use Rattle.room.proofs.Shutting.{Shut, shut-step, StaysShut, shut-session, unlock-aborts}
+use Rattle.room.proofs.Shutting.{shut-step, shut-session, unlock-aborts}
 use Rattle.room.proofs.Opening.{right-words-open}
 
 -- ---- a mismatch is of a locked device, and not accepted

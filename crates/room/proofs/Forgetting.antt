@@ -1,11 +1,11 @@
 -- A password block leaves no word of itself: judged, the buffer is zeroed with its end; dropped, it is zeroed before the Command or reset goes on.
 use mathlib.Core.Path.{_≡_, refl, sym, ap, _∙_}
-use mathlib.Core.Bool.{Bool, true, false}
+use mathlib.Core.Bool.{true, false}
 use mathlib.Core.List.{List}
 use Prim.Native.Nat.{ℕ, _≤_}
 use lib.Dec.{eqb}
 use borrow.Author.Tests.{eqb-true}
-use Rattle.base.specs.Choice.{pick, within}
+use Rattle.base.specs.Choice.{within}
 use Rattle.base.proofs.Tests.{false≢true, either-way}
 use Rattle.block.specs.Sectors.{zeroBlock}
 use Rattle.lock.specs.declared.Security.{Security}
@@ -16,7 +16,6 @@ use Rattle.face.specs.Face.{withHot, withBuffer, idleFace}
 use Rattle.face.specs.Reads.{isIdle}
 use Rattle.face.specs.Ends.{clearedOf}
 use Rattle.face.specs.declared.PasswordBlock.{PasswordBlock}
-use Rattle.face.specs.declared.Transfer.{Transfer}
 use Rattle.face.specs.declared.Transfer.the-variants.{TakingPassword}
 use Rattle.face.specs.declared.Hot.{Hot}
 use Rattle.face.specs.declared.Face.{Face}
@@ -41,7 +40,7 @@ use Rattle.device.proofs.Memories.{shaped-disk}
 use Rattle.laws.proofs.Reached.{open-clear}
 use Rattle.laws.proofs.Opens.{blockWith, last-word}
 use Rattle.laws.proofs.Steps.{ready-step, clear-acts}
-use Rattle.room.specs.Claims.{holding, dropsBlock, BlockForgotten, ForgetsBlocks}
+use Rattle.room.specs.Claims.{holding, dropsBlock, ForgetsBlocks}
 
 -- ---- judged
 

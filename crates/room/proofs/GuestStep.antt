@@ -3,10 +3,10 @@ use mathlib.Core.Path.{_≡_, refl, sym, ap, _∙_}
 use mathlib.Core.Bool.{Bool, true, false}
 use mathlib.Core.List.{List, []}
 use Prim.Native.Nat.{ℕ}
-use lib.Dec.{eqb, ltb}
-use Rattle.base.specs.Choice.{pick, within}
+use lib.Dec.{ltb}
+use Rattle.base.specs.Choice.{pick}
 use Rattle.base.proofs.Tests.{false≢true, either-way}
-use Rattle.lock.specs.Lock.{isOpen, isLocked, isFrozen, unpreparedOf}
+use Rattle.lock.specs.Lock.{isOpen, isLocked, isFrozen}
 use Rattle.lock.specs.declared.Lock.{Lock}
 use Rattle.lock.specs.declared.Lock.the-variants.{Open, Locked, Frozen}
 use Rattle.lock.specs.declared.Security.{Security}
@@ -14,11 +14,11 @@ use Rattle.lock.specs.declared.Secrets.{Secrets}
 use Rattle.lock.specs.declared.Purpose.{Purpose}
 use Rattle.lock.specs.declared.Purpose.the-variants.{Set, Unlock, Erase, Disable}
 use Rattle.judging.specs.Passwords.{matchesOf}
-use Rattle.judging.specs.Judging.{judged, mismatchedOf, masterAtMaximum, unlockLocked, unlockOf, acceptsOf, eraseOf, judgeOf}
+use Rattle.judging.specs.Judging.{judged, masterAtMaximum, unlockLocked, unlockOf, acceptsOf, eraseOf, judgeOf}
 use Rattle.judging.specs.declared.Judged.{Judged}
 use Rattle.judging.specs.declared.Verdict.the-variants.{Aborts}
 use Rattle.codes.specs.Commands.{decodeOf}
-use Rattle.codes.specs.MayRun.{notLocked, runsIn, mayRunOf, barredOf}
+use Rattle.codes.specs.MayRun.{runsIn, mayRunOf, barredOf}
 use Rattle.codes.specs.declared.Command.{Command}
 use Rattle.codes.specs.declared.Command.the-variants.{Unknown, Recalibrate, ReadSectors, WriteSectors, VerifySectors, Seek, ExecuteDiagnostic, InitializeParameters, ReadBuffer, WriteBuffer, IdentifyDevice, SecuritySetPassword, SecurityUnlock, SecurityErasePrepare, SecurityEraseUnit, SecurityFreezeLock, SecurityDisablePassword}
 use Rattle.face.specs.declared.PasswordBlock.{PasswordBlock}
@@ -34,9 +34,9 @@ use Rattle.transfers.specs.declared.Told.{Told}
 use Rattle.reading.specs.Words.{readWordAs, readWordOf}
 use Rattle.commands.specs.Gate.{begunOf, abortAtOnce, runOf, stationsOf, commandOf}
 use Rattle.shape.specs.Shape.{runFits, passwordFits, transferFits}
-use Rattle.shape.proofs.Clauses.{Fits, shape-clauses}
-use Rattle.effects.specs.Effects.{acted, Effect, effect}
-use Rattle.password.specs.Passwords.{passwordLast, passwordLastSectors, passwordWord, passwordWordSectors, judgedActed, judgementOf, sectorsAs}
+use Rattle.shape.proofs.Clauses.{shape-clauses}
+use Rattle.effects.specs.Effects.{acted, effect}
+use Rattle.password.specs.Passwords.{passwordLast, passwordLastSectors, passwordWord, passwordWordSectors, judgedActed, sectorsAs}
 use Rattle.disk.specs.Actions.{toldActed, writeRegisterOf, writeWordAs, writeWordOf, actOf}
 use Rattle.device.specs.Alone.{shown, stepAs, actedOf, Step, aloneOf}
 use Rattle.device.specs.Host.{Ready, stepOf}

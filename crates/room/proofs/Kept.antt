@@ -1,9 +1,9 @@
 -- The guest's step leaves a locked face locked: nothing but an accepted block and a start of a disk with security off opens it.
-use mathlib.Core.Path.{_≡_, refl, sym, ap, _∙_}
-use mathlib.Core.Bool.{Bool, true, false}
+use mathlib.Core.Path.{_≡_, sym, ap, _∙_}
+use mathlib.Core.Bool.{Bool, true}
 use mathlib.Core.List.{List, []}
 use Prim.Native.Nat.{ℕ, _-_}
-use lib.Dec.{eqb, ltb}
+use lib.Dec.{ltb}
 use Rattle.base.proofs.Tests.{false≢true, pick-both}
 use Rattle.lock.specs.Lock.{isLocked, withAttempts, startingLock}
 use Rattle.lock.specs.declared.Security.{Security}

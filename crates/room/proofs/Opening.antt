@@ -1,14 +1,12 @@
 -- A right block opens a locked device with attempts left, from wherever a guest left off: a software reset makes the way free, F2h takes the block, its 256th word is judged.
 use mathlib.Core.Path.{_≡_, refl, sym, ap, _∙_}
-use mathlib.Core.Bool.{Bool, true, false}
+use mathlib.Core.Bool.{true, false}
 use mathlib.Core.List.{List, [], _∷_, map}
-use Prim.Native.Nat.{ℕ, _+_, _<_, _≤_}
+use Prim.Native.Nat.{ℕ, _+_, _<_}
 use native.Mathlib.Omega.{arith}
-use lib.Dec.{eqb, ltb}
 use lib.ListN.{length}
 use borrow.Author.Tests.{lt-ltb}
-use Rattle.base.specs.Choice.{pick, within}
-use Rattle.block.specs.Sectors.{zeroBlock}
+use Rattle.base.specs.Choice.{within}
 use Rattle.block.specs.Passwords.{passwordOf}
 use Rattle.lock.specs.Lock.{isLocked, unpreparedOf}
 use Rattle.lock.specs.declared.Lock.{Lock}
@@ -22,19 +20,17 @@ use Rattle.judging.specs.Judging.{openedOf, judged, masterAtMaximum, unlockLock
 use Rattle.judging.specs.declared.Verdict.the-variants.{EndsWell}
 use Rattle.judging.proofs.Opening.{matches-right}
 use Rattle.codes.specs.Commands.{codedOf, decodeOf}
-use Rattle.codes.specs.MayRun.{notFrozen, mayRunOf}
-use Rattle.settled.specs.Settled.{settledReset}
-use Rattle.face.specs.Face.{startHot, withTransfer, withHot, withSettled, withBuffer, nextPasswordWord}
+use Rattle.codes.specs.MayRun.{mayRunOf}
+use Rattle.face.specs.Face.{startHot, withTransfer, withHot}
 use Rattle.face.specs.Ends.{clearedOf}
 use Rattle.face.specs.declared.PasswordBlock.{PasswordBlock}
 use Rattle.face.specs.declared.Transfer.{Transfer}
-use Rattle.face.specs.declared.Transfer.the-variants.{Idle, TakingPassword}
-use Rattle.face.specs.declared.Face.{Face}
+use Rattle.face.specs.declared.Transfer.the-variants.{TakingPassword}
 use Rattle.face.specs.declared.Answer.the-variants.{Done}
 use Rattle.face.specs.declared.Action.{Action}
 use Rattle.face.specs.declared.Action.the-variants.{WriteRegister, WriteWord}
 use Rattle.resets.specs.Resets.{droppedOf}
-use Rattle.resets.specs.Control.{srstOf, nienOf, softResetOf, releasedOf, controlOf}
+use Rattle.resets.specs.Control.{srstOf, nienOf, softResetOf, controlOf}
 use Rattle.fastpath.specs.Dev.{devSet, ignoredOf}
 use Rattle.commands.specs.Others.{takePasswordOf}
 use Rattle.commands.specs.Gate.{begunOf, stationsOf, commandOf}
@@ -46,7 +42,7 @@ use Rattle.device.specs.declared.Device.{Device}
 use Rattle.laws.proofs.ReadBack.{putAll}
 use Rattle.laws.proofs.Opens.{judgedStep, blockWith, last-word}
 use Rattle.laws.proofs.Steps.{ready-step, ready-after}
-use Rattle.room.specs.Sessions.{Session, sessionOf}
+use Rattle.room.specs.Sessions.{sessionOf}
 use Rattle.room.specs.Claims.{securityIn, unlockWith, RightWords}
 
 -- ---- the words of the block

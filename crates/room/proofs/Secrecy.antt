@@ -20,7 +20,7 @@ use Rattle.room.specs.Sessions.{Session, led, sessionOf}
 use Rattle.room.specs.Blocks.{acceptedOf, neverAccepted}
 use Rattle.room.specs.Started.{startedFace}
 use Rattle.room.specs.Guest.{guestStep, guestAnswers, guestFace}
-use Rattle.room.specs.Claims.{securityIn, Guarded, AlikeOutside, Untouched, SecretKept, KeepsTheSecret, AnswersByFace, AnswersByOutside}
+use Rattle.room.specs.Claims.{securityIn, Guarded, AlikeOutside, Untouched, KeepsTheSecret, AnswersByFace, AnswersByOutside}
 use Rattle.room.proofs.Kept.{guest-locked}
 use Rattle.room.proofs.GuestStep.{guestLeaves, step-guest}
 use Rattle.room.proofs.Started.{guarded-face, guarded-locked}

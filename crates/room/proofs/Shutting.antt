@@ -4,20 +4,17 @@ use mathlib.Core.Bool.{Bool, true, false, not}
 use mathlib.Core.List.{List, [], _∷_}
 use Prim.Native.Nat.{ℕ, _+_, _≤_}
 use native.Mathlib.Omega.{arith}
-use lib.Dec.{eqb, ltb}
+use lib.Dec.{ltb}
 use borrow.Author.Tests.{eq-eqb}
 use Rattle.base.specs.Choice.{pick, within}
-use Rattle.base.proofs.Tests.{false≢true, both-true, pick-both, either-way}
+use Rattle.base.proofs.Tests.{false≢true, pick-both}
 use Rattle.lock.specs.Lock.{isLocked, isFrozen, exhaustedOf, cannotErase}
 use Rattle.lock.specs.declared.Security.{Security}
 use Rattle.lock.specs.declared.Secrets.{Secrets}
 use Rattle.lock.specs.declared.Purpose.{Purpose}
 use Rattle.lock.specs.declared.Purpose.the-variants.{Set, Unlock, Erase, Disable}
-use Rattle.judging.specs.Passwords.{matchesOf}
-use Rattle.judging.specs.Judging.{masterAtMaximum}
 use Rattle.codes.specs.Commands.{codedOf, decodeOf}
 use Rattle.codes.specs.MayRun.{mayRunOf}
-use Rattle.settled.specs.declared.Settled.{Settled}
 use Rattle.face.specs.Reads.{statusOf}
 use Rattle.face.specs.declared.Signals.{Signals}
 use Rattle.face.specs.declared.Transfer.{Transfer}
@@ -27,7 +24,6 @@ use Rattle.face.specs.declared.Face.{Face}
 use Rattle.face.specs.declared.Action.{Action}
 use Rattle.face.specs.declared.Action.the-variants.{ReadRegister, WriteRegister, ReadWord, WriteWord, HardwareReset, PowerOn, Line}
 use Rattle.transfers.specs.Sectors.{abortFace}
-use Rattle.fastpath.specs.Dev.{devSet}
 use Rattle.commands.specs.Gate.{begunOf, abortAtOnce, stationsOf, commandOf}
 use Rattle.shape.specs.Shape.{passwordFits, transferFits}
 use Rattle.shape.proofs.Clauses.{shape-clauses}
@@ -39,9 +35,9 @@ use Rattle.device.proofs.Memories.{shaped-disk}
 use Rattle.laws.proofs.Shape.{drop-leaves}
 use Rattle.laws.proofs.Settling.{drop-settles}
 use Rattle.laws.proofs.Steps.{ready-step, clear-acts}
-use Rattle.room.specs.Sessions.{Session, led, sessionOf}
-use Rattle.room.specs.Blocks.{completedAs, completedOf, unlockAccepts, eraseAccepts, blockAccepted, acceptedOf, unlockMismatch, mismatchOf, restarts, countedOf, neverRestarts}
-use Rattle.room.specs.Claims.{securityIn, Untouched, Aborted, UnlockAborts}
+use Rattle.room.specs.Sessions.{Session, sessionOf}
+use Rattle.room.specs.Blocks.{completedAs, completedOf, blockAccepted, acceptedOf, mismatchOf, restarts, countedOf, neverRestarts}
+use Rattle.room.specs.Claims.{securityIn, Aborted, UnlockAborts}
 use Rattle.room.proofs.Kept.{guest-locked}
 use Rattle.room.proofs.GuestStep.{guestLeaves, step-guest}
 use Rattle.room.proofs.Secrecy.{locked-enabled, guestLeft, guest-ready, never-first}

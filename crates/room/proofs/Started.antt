@@ -1,5 +1,5 @@
 -- A start makes the face anew from geometry, identity, level and enabled mark, so just powered-on devices that agree on these have the same face.
-use mathlib.Core.Path.{_≡_, refl, sym, ap, _∙_}
+use mathlib.Core.Path.{_≡_, sym, ap, _∙_}
 use mathlib.Core.Bool.{Bool, true}
 use mathlib.Core.List.{List, [], _∷_}
 use Prim.Native.Nat.{ℕ}
@@ -18,7 +18,7 @@ use Rattle.laws.proofs.Steps.{ready-step}
 use Rattle.laws.proofs.Lengths.{Whole, step-whole}
 use Rattle.room.specs.Sessions.{sessionOf}
 use Rattle.room.specs.Started.{startedFace}
-use Rattle.room.specs.Claims.{securityIn, JustPoweredOn, Guarded, AlikeOutside, StartedAlike, LeavesNothingElse, WhateverCameBefore}
+use Rattle.room.specs.Claims.{securityIn, JustPoweredOn, Guarded, LeavesNothingElse, WhateverCameBefore}
 
 -- what power-on and hardware reset leave
 pub leaves-nothing-else : LeavesNothingElse stepOf

@@ -2,7 +2,7 @@
 use Prim.Native.Nat.{ℕ, _+_, _≤_, _<_}
 use mathlib.Core.Path.{_≡_}
 use mathlib.Core.Bool.{Bool, true, false, not}
-use mathlib.Core.List.{List, [], _∷_, map}
+use mathlib.Core.List.{List, _∷_, map}
 use lib.Dec.{eqb}
 use lib.ListN.{length}
 use Rattle.base.specs.Choice.{pick}
@@ -18,7 +18,6 @@ use Rattle.face.specs.Reads.{isIdle, statusOf}
 use Rattle.face.specs.declared.PasswordBlock.{PasswordBlock}
 use Rattle.face.specs.declared.Transfer.the-variants.{TakingPassword}
 use Rattle.face.specs.declared.Hot.{Hot}
-use Rattle.face.specs.declared.Face.{Face}
 use Rattle.face.specs.declared.Action.{Action}
 use Rattle.face.specs.declared.Action.the-variants.{ReadRegister, WriteRegister, ReadWord, WriteWord, HardwareReset, PowerOn, Line}
 use Rattle.fastpath.specs.Dev.{devSet}
@@ -28,7 +27,7 @@ use Rattle.device.specs.Host.{Ready}
 use Rattle.device.specs.declared.Device.{Device}
 use Rattle.laws.proofs.ReadBack.{putAll}
 use Rattle.laws.proofs.Lengths.{Whole}
-use Rattle.room.specs.Sessions.{Rules, Session, sessionOf}
+use Rattle.room.specs.Sessions.{Rules, sessionOf}
 use Rattle.room.specs.Blocks.{acceptedOf, neverAccepted, mismatchesFrom, neverRestarts}
 use Rattle.room.specs.Started.{startedFace, startedStep}
 use Rattle.room.specs.Guest.{guestAnswers, guestFace}
