@@ -128,7 +128,7 @@ unfolding passwordWord passwordWordSectors guestPassword
 password-guest f x m b w h k e =
     either-way (ltb (b .word) 255)
     (λ q. simp q)
-    (λ q. let g = wordIn f (b .word) w in let a : blockAccepted (f .settled .security) x (b .purpose) (g .buffer) ≡ false = simp q at e in
+    (λ q. let g = wordIn f (b .word) w in let a : blockAccepted (f .settled .security) x (b .purpose) (g .buffer) ≡ false = sym (ap (λ (t : Bool). pick t false (blockAccepted (f .settled .security) x (b .purpose) (g .buffer))) q) ∙ e in
     simp (q, last-guest g x (b .purpose) h k a, last-keeps g x m (b .purpose) h k a))
 
 write-guest : (f : Face) (x : Secrets) (m : List ℕ) (w : ℕ) (t : Transfer) → isLocked (f .settled .security .lock) ≡ true → transferFits (f .settled) t ≡ true

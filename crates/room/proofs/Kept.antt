@@ -31,13 +31,17 @@ pub locked-closed : Closed LockedIn
 locked-closed =
     record { translation = λ s t p. p; prepared = λ s p. p; unprepared = λ s p. p; frozen = λ s h p. absurd (false≢true (sym h ∙ p)) }
 
-mismatched-locked : (s : Security) → isLocked (s .lock) ≡ true → isLocked (mismatchedOf s .lock) ≡ true
-unfolding mismatchedOf
-mismatched-locked s h = pick-both (λ (t : Security). isLocked (t .lock) ≡ true) (ltb 0 (s .attempts)) (withAttempts s (s .attempts - 1)) s h h
+-- said of security settings, for the choices in their definitions
+abbrev LockedBy : Security → Type 0
+LockedBy s = isLocked (s .lock) ≡ true
 
-refused-locked : (s : Security) (b : List ℕ) (p : Purpose) → isLocked (s .lock) ≡ true → isLocked (refusedSecurity s b p .lock) ≡ true
+mismatched-locked : (s : Security) → LockedBy s → LockedBy (mismatchedOf s)
+unfolding mismatchedOf
+mismatched-locked s h = pick-both LockedBy (ltb 0 (s .attempts)) (withAttempts s (s .attempts - 1)) s h h
+
+refused-locked : (s : Security) (b : List ℕ) (p : Purpose) → LockedBy s → LockedBy (refusedSecurity s b p)
 refused-locked s b Set h = h
-refused-locked s b Unlock h = pick-both (λ (t : Security). isLocked (t .lock) ≡ true) (masterAtMaximum s b) _ _ h (mismatched-locked s h)
+refused-locked s b Unlock h = search (pick-both LockedBy, mismatched-locked)
 refused-locked s b Erase h = h
 refused-locked s b Disable h = h
 
