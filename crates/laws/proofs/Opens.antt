@@ -1,6 +1,6 @@
 -- The right password opens, and an accepted ERASE UNIT leaves all sectors zero and security off, seen from the host's call.
 use mathlib.Core.Bool.{true, false}
-use mathlib.Core.Path.{_≡_, ap, _∙_}
+use mathlib.Core.Path.{_≡_, refl, ap, _∙_}
 use mathlib.Core.List.{List}
 use Prim.Native.Nat.{ℕ, _≤_}
 use borrow.Author.Tests.{eq-eqb, le-ltb}
@@ -13,20 +13,29 @@ use Rattle.judging.specs.Passwords.{withUser}
 use Rattle.judging.specs.declared.Judged.{Judged}
 use Rattle.lock.specs.declared.Purpose.{Purpose}
 use Rattle.lock.specs.declared.Purpose.the-variants.{Unlock, Erase}
-use Rattle.judging.specs.declared.Verdict.the-variants.{EndsWell}
+use Rattle.judging.specs.declared.Verdict.{Verdict}
+use Rattle.judging.specs.declared.Verdict.the-variants.{EndsWell, Aborts, Erases}
 use Rattle.judging.proofs.Opening.{SendsUser, SendsMaster, user-opens, master-opens, erases}
+use Rattle.face.specs.Face.{withHot}
+use Rattle.face.specs.declared.Face.{Face}
 use Rattle.face.specs.declared.PasswordBlock.{PasswordBlock}
 use Rattle.face.specs.declared.Transfer.{Transfer}
 use Rattle.face.specs.declared.Transfer.the-variants.{TakingPassword}
 use Rattle.face.specs.declared.Action.the-variants.{WriteWord}
 use Rattle.fastpath.specs.Dev.{ignoredOf}
 use Rattle.transfers.specs.Words.{wordIn}
-use Rattle.password.specs.Passwords.{sectorsAs, judgedActed, passwordLast, passwordLastSectors, passwordWord, passwordWordSectors}
+use Rattle.password.specs.Passwords.{endedAs, sectorsAs, judgedActed, passwordLast, passwordLastSectors, passwordWord, passwordWordSectors}
 use Rattle.effects.specs.Effects.{effect}
 use Rattle.disk.specs.Actions.{writeWordAs, writeWordOf, actOf}
 use Rattle.device.specs.Alone.{Step, stepAs, aloneOf}
 use Rattle.device.specs.Host.{Ready, stepOf}
 use Rattle.device.specs.declared.Device.{Device}
+
+-- a password command ends in the hot part alone
+pub ended-hot : (f : Face) (v : Verdict) → endedAs f v ≡ withHot f (endedAs f v .hot)
+ended-hot f EndsWell = refl
+ended-hot f Aborts = refl
+ended-hot f Erases = refl
 
 -- the last word of a password block is on its way
 pub record LastWord (d : Device) (p : Purpose) (b : PasswordBlock) : Type 0 where

@@ -19,17 +19,18 @@ use Rattle.face.specs.declared.Transfer.{Transfer}
 use Rattle.face.specs.declared.Transfer.the-variants.{Idle, Reading, Writing, ReadingBuffer, WritingBuffer, TakingPassword}
 use Rattle.face.specs.declared.Action.{Action}
 use Rattle.face.specs.declared.Action.the-variants.{ReadRegister, WriteRegister, ReadWord, WriteWord, HardwareReset, PowerOn, Line}
+use Rattle.face.specs.declared.Face.{Face}
+use Rattle.password.specs.Passwords.{passwordEnded}
 use Rattle.transfers.specs.Words.{wordIn}
 use Rattle.device.specs.Alone.{Step}
 use Rattle.device.specs.Host.{Ready, stepOf}
 use Rattle.device.specs.declared.Device.{Device}
-use Rattle.laws.proofs.Opens.{blockWith, last-word}
+use Rattle.laws.proofs.Opens.{ended-hot, blockWith, last-word}
 use Rattle.room.specs.Blocks.{completedAs, completedOf, unlockAccepts, eraseAccepts, blockAccepted, acceptedOf}
 use Rattle.room.specs.Claims.{securityIn, AcceptedOpens}
 use Rattle.room.proofs.Kept.{guest-locked}
 use Rattle.room.proofs.GuestStep.{step-guest}
 use Rattle.room.proofs.Secrecy.{locked-enabled}
-use Rattle.room.proofs.Counting.{ended-security}
 
 -- an accepted block is judged so that the device is open
 judged-open : (s : Security) (x : Secrets) (p : Purpose) (b : List ℕ) → blockAccepted s x p b ≡ true → judgeOf p s x b .security .lock ≡ Open
@@ -60,7 +61,7 @@ word-opens d m w (TakingPassword b) k e h =
     (λ q.
     let j = judgeOf (b .purpose) (securityIn d) (d .secrets) (blockWith d b w) in
     ap (λ (s : Step). securityIn (s .outcome .device) .lock) (last-word d m (b .purpose) b w k record { opened = e; purpose = refl; last = ltb-false (b .word) 255 q })
-    ∙ ap (λ (s : Security). s .lock) (ended-security (wordIn (d .face) (b .word) w) (j .security) (j .verdict))
+    ∙ ap (λ (f : Face). f .settled .security .lock) (ended-hot (passwordEnded (wordIn (d .face) (b .word) w) (j .security)) (j .verdict))
     ∙ judged-open (securityIn d) (d .secrets) (b .purpose) (blockWith d b w) (simp q at h))
 
 opens : (d : Device) (m : List ℕ) (a : Action) → Ready d m → acceptedOf d a ≡ true → securityIn (stepOf d m a .outcome .device) .lock ≡ Open

@@ -17,8 +17,6 @@ use Rattle.lock.proofs.Sound.{left-attempts}
 use Rattle.judging.specs.Passwords.{masterPicked, matchesOf}
 use Rattle.judging.specs.Judging.{mismatchedOf, setOf, masterAtMaximum, unlockLocked, unlockOf, acceptsOf, eraseOf, disableOf, judgeOf}
 use Rattle.judging.specs.declared.Judged.{Judged}
-use Rattle.judging.specs.declared.Verdict.{Verdict}
-use Rattle.judging.specs.declared.Verdict.the-variants.{EndsWell, Aborts, Erases}
 use Rattle.settled.specs.declared.Settled.{Settled}
 use Rattle.face.specs.declared.PasswordBlock.{PasswordBlock}
 use Rattle.face.specs.declared.Transfer.{Transfer}
@@ -31,13 +29,14 @@ use Rattle.reading.specs.Words.{readWordOf}
 use Rattle.fastpath.specs.Dev.{ignoredOf}
 use Rattle.shape.specs.Shape.{passwordFits, transferFits}
 use Rattle.shape.proofs.Clauses.{shape-clauses}
-use Rattle.password.specs.Passwords.{passwordEnded, endedAs, judgementOf, passwordLast, passwordWord}
+use Rattle.password.specs.Passwords.{passwordEnded, judgementOf, passwordLast, passwordWord}
 use Rattle.disk.specs.Actions.{writeWordAs, writeWordOf, actOf}
 use Rattle.device.specs.Alone.{Step, aloneOf}
 use Rattle.device.specs.Host.{Ready, stepOf}
 use Rattle.device.specs.declared.Device.{Device}
 use Rattle.device.proofs.Memories.{shaped-disk}
 use Rattle.laws.proofs.Settling.{Closed, write-register-settles, read-word-settles, write-word-settles}
+use Rattle.laws.proofs.Opens.{ended-hot}
 use Rattle.laws.proofs.Steps.{ready-step}
 use Rattle.room.specs.Blocks.{completedAs, completedOf, unlockMismatch, mismatchOf, countedOf}
 use Rattle.room.specs.Claims.{securityIn}
@@ -83,16 +82,11 @@ judge-five s x Unlock b n k p =
 judge-five s x Erase b n k p = five-left (pick-both (λ (j : Judged). j .security .attempts ≡ s .attempts) (acceptsOf s x b) _ _ refl refl) p
 judge-five s x Disable b n k p = five-left (pick-both (λ (j : Judged). j .security .attempts ≡ s .attempts) (acceptsOf s x b) _ _ refl refl) p
 
-pub ended-security : (f : Face) (s : Security) (v : Verdict) → endedAs (passwordEnded f s) v .settled .security ≡ s
-ended-security f s EndsWell = refl
-ended-security f s Aborts = refl
-ended-security f s Erases = refl
-
 last-five : (f : Face) (x : Secrets) (p : Purpose) (n : ℕ) → passwordFits (f .settled .security) p ≡ true → Five (f .settled .security) n
     → Five (passwordLast f x p .face .settled .security) (pick (unlockMismatch (f .settled .security) x p (f .buffer)) (n + 1) n)
 unfolding passwordLast
 last-five f x p n k q =
-    rw (ended-security f (judgementOf f x p .security) (judgementOf f x p .verdict)) (judge-five (f .settled .security) x p (f .buffer) n k q)
+    rw (ended-hot (passwordEnded f (judgementOf f x p .security)) (judgementOf f x p .verdict)) (judge-five (f .settled .security) x p (f .buffer) n k q)
 
 password-five : (f : Face) (x : Secrets) (b : PasswordBlock) (w n : ℕ) → passwordFits (f .settled .security) (b .purpose) ≡ true → Five (f .settled .security) n
     → Five (passwordWord f x b w .face .settled .security) (pick (completedAs (unlockMismatch (f .settled .security) x) f w (TakingPassword b)) (n + 1) n)

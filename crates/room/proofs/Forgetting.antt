@@ -8,10 +8,7 @@ use borrow.Author.Tests.{eqb-true}
 use Rattle.base.specs.Choice.{within}
 use Rattle.base.proofs.Tests.{false≢true, either-way}
 use Rattle.block.specs.Sectors.{zeroBlock}
-use Rattle.lock.specs.declared.Security.{Security}
 use Rattle.judging.specs.Judging.{judgeOf}
-use Rattle.judging.specs.declared.Verdict.{Verdict}
-use Rattle.judging.specs.declared.Verdict.the-variants.{EndsWell, Aborts, Erases}
 use Rattle.face.specs.Face.{withHot, withBuffer, idleFace}
 use Rattle.face.specs.Reads.{isIdle}
 use Rattle.face.specs.Ends.{clearedOf}
@@ -30,7 +27,7 @@ use Rattle.transfers.specs.declared.Told.{Told}
 use Rattle.commands.specs.Gate.{begunOf, stationsOf, commandOf}
 use Rattle.shape.specs.Shape.{heldFits, diskFits}
 use Rattle.shape.proofs.Clauses.{shape-clauses}
-use Rattle.password.specs.Passwords.{passwordEnded, endedAs}
+use Rattle.password.specs.Passwords.{passwordEnded}
 use Rattle.effects.specs.Effects.{effect}
 use Rattle.disk.specs.Actions.{toldActed, writeRegisterOf, actOf}
 use Rattle.device.specs.Alone.{Step, stepAs, aloneOf}
@@ -38,23 +35,18 @@ use Rattle.device.specs.Host.{Ready, shapedOf, stepOf}
 use Rattle.device.specs.declared.Device.{Device}
 use Rattle.device.proofs.Memories.{shaped-disk}
 use Rattle.laws.proofs.Reached.{open-clear}
-use Rattle.laws.proofs.Opens.{blockWith, last-word}
+use Rattle.laws.proofs.Opens.{ended-hot, blockWith, last-word}
 use Rattle.laws.proofs.Steps.{ready-step, clear-acts}
 use Rattle.room.specs.Claims.{holding, dropsBlock, ForgetsBlocks}
 
 -- ---- judged
-
-ended-zero : (f : Face) (s : Security) (v : Verdict) → endedAs (passwordEnded f s) v .buffer ≡ zeroBlock
-ended-zero f s EndsWell = refl
-ended-zero f s Aborts = refl
-ended-zero f s Erases = refl
 
 judged-zero : (d : Device) (m : List ℕ) (b : PasswordBlock) (w : ℕ) → Ready d m → d .face .hot .transfer ≡ TakingPassword b → 255 ≤ b .word
     → stepOf d m (WriteWord w) .outcome .device .face .buffer ≡ zeroBlock
 judged-zero d m b w k e h =
     let j = judgeOf (b .purpose) (d .face .settled .security) (d .secrets) (blockWith d b w) in
     ap (λ (s : Step). s .outcome .device .face .buffer) (last-word d m (b .purpose) b w k record { opened = e; purpose = refl; last = h })
-    ∙ ended-zero (wordIn (d .face) (b .word) w) (j .security) (j .verdict)
+    ∙ ap (λ (f : Face). f .buffer) (ended-hot (passwordEnded (wordIn (d .face) (b .word) w) (j .security)) (j .verdict))
 
 -- ---- dropped
 

@@ -9,7 +9,7 @@ use Rattle.lock.specs.Lock.{isLocked, withAttempts, startingLock}
 use Rattle.lock.specs.declared.Security.{Security}
 use Rattle.lock.specs.declared.Purpose.{Purpose}
 use Rattle.lock.specs.declared.Purpose.the-variants.{Set, Unlock, Erase, Disable}
-use Rattle.judging.specs.Judging.{mismatchedOf, masterAtMaximum}
+use Rattle.judging.specs.Judging.{mismatchedOf}
 use Rattle.settled.specs.declared.Settled.{Settled}
 use Rattle.face.specs.declared.Transfer.{Transfer}
 use Rattle.face.specs.declared.Transfer.the-variants.{Idle, Reading, Writing, ReadingBuffer, WritingBuffer, TakingPassword}
