@@ -259,14 +259,14 @@ held-open true idle p q = absurd (false≢true (sym q ∙ p))
 held-open false idle p q = refl
 
 -- no reset is held while a transfer is open
-open-free : (f : Face) → Fits f → isIdle (f .hot .transfer) ≡ false → f .hot .signals .held ≡ false
+pub open-free : (f : Face) → Fits f → isIdle (f .hot .transfer) ≡ false → f .hot .signals .held ≡ false
 unfolding heldFits
 open-free f k o = held-open (f .hot .signals .held) (isIdle (f .hot .transfer)) (k .held) o
 
 open-running : (f : Face) → Fits f → isIdle (f .hot .transfer) ≡ false → Running f
 open-running f k o = record { sound = k .sound; free = open-free f k o }
 
-guard : (b x : Bool) → pick b false x ≡ true → (b ≡ false) × (x ≡ true)
+pub guard : (b x : Bool) → pick b false x ≡ true → (b ≡ false) × (x ≡ true)
 guard true x e = absurd (false≢true e)
 guard false x e = (refl, e)
 

@@ -35,6 +35,7 @@ use Rattle.device.specs.Alone.{Step, aloneOf}
 use Rattle.device.specs.Host.{Ready, stepOf}
 use Rattle.device.specs.declared.Device.{Device}
 use Rattle.device.proofs.Memories.{shaped-disk}
+use Rattle.laws.proofs.Shape.{guard}
 use Rattle.laws.proofs.Settling.{Closed, write-register-settles, read-word-settles, write-word-settles}
 use Rattle.laws.proofs.Opens.{ended-hot}
 use Rattle.laws.proofs.Steps.{ready-step}
@@ -64,10 +65,14 @@ mismatched-five s n e p =
     let some : 0 < s .attempts = left-attempts s e in
     rw (lt-ltb 0 (s .attempts) some) (record { is = let h : s .attempts + n ≡ 5 = p .is in omega arith })
 
-unlock-fits : (frozen none : Bool) → pick frozen false (not none) ≡ true → none ≡ false
-unlock-fits true none e = absurd (false≢true e)
-unlock-fits false true e = absurd (false≢true e)
-unlock-fits false false e = refl
+-- an open UNLOCK block has attempts left
+pub unlock-fits : (s : Security) → passwordFits s Unlock ≡ true → exhaustedOf s ≡ false
+unfolding passwordFits
+unlock-fits s k = go (exhaustedOf s) (guard (isFrozen (s .lock)) (not (exhaustedOf s)) k .1)
+  where
+    go : (none : Bool) → not none ≡ true → none ≡ false
+    go true e = absurd (false≢true e)
+    go false e = refl
 
 judge-five : (s : Security) (x : Secrets) (p : Purpose) (b : List ℕ) (n : ℕ) → passwordFits s p ≡ true → Five s n
     → Five (judgeOf p s x b .security) (pick (unlockMismatch s x p b) (n + 1) n)
@@ -77,7 +82,7 @@ judge-five s x Unlock b n k p =
     either-way (isLocked (s .lock))
     (λ h. either-way (masterAtMaximum s b)
     (λ q. simp (h, q) p)
-    (λ q. either-way (matchesOf x b) (λ e. simp (h, q, e) (record { is = p .is })) (λ e. simp (h, q, e) (mismatched-five s n (unlock-fits (isFrozen (s .lock)) (exhaustedOf s) k) p))))
+    (λ q. either-way (matchesOf x b) (λ e. simp (h, q, e) (record { is = p .is })) (λ e. simp (h, q, e) (mismatched-five s n (unlock-fits s k) p))))
     (λ h. simp h p)
 judge-five s x Erase b n k p = five-left (pick-both (λ (j : Judged). j .security .attempts ≡ s .attempts) (acceptsOf s x b) _ _ refl refl) p
 judge-five s x Disable b n k p = five-left (pick-both (λ (j : Judged). j .security .attempts ≡ s .attempts) (acceptsOf s x b) _ _ refl refl) p

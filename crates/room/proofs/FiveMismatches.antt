@@ -4,7 +4,6 @@ use mathlib.Core.Bool.{Bool, true, false, not}
 use mathlib.Core.List.{List, [], _∷_}
 use Prim.Native.Nat.{ℕ, _+_, _<_}
 use native.Mathlib.Omega.{arith}
-use lib.Dec.{ltb}
 use Rattle.base.specs.Choice.{pick}
 use Rattle.base.proofs.Tests.{false≢true, both-true, either-way}
 use Rattle.lock.specs.Lock.{isLocked}
@@ -14,18 +13,16 @@ use Rattle.lock.specs.declared.Purpose.{Purpose}
 use Rattle.lock.specs.declared.Purpose.the-variants.{Set, Unlock, Erase, Disable}
 use Rattle.judging.specs.Passwords.{matchesOf}
 use Rattle.judging.specs.Judging.{masterAtMaximum}
-use Rattle.face.specs.declared.Transfer.{Transfer}
-use Rattle.face.specs.declared.Transfer.the-variants.{Idle, Reading, Writing, ReadingBuffer, WritingBuffer, TakingPassword}
 use Rattle.face.specs.declared.Face.{Face}
 use Rattle.face.specs.declared.Action.{Action}
-use Rattle.face.specs.declared.Action.the-variants.{ReadRegister, WriteRegister, ReadWord, WriteWord, HardwareReset, PowerOn, Line}
 use Rattle.device.specs.Alone.{Step}
 use Rattle.device.specs.Host.{Ready, stepOf}
 use Rattle.device.specs.declared.Device.{Device}
 use Rattle.laws.proofs.Lengths.{Whole, step-whole}
 use Rattle.room.specs.Sessions.{sessionOf}
-use Rattle.room.specs.Blocks.{completedAs, completedOf, unlockAccepts, blockAccepted, acceptedOf, unlockMismatch, mismatchOf, restarts, countedOf, mismatchesFrom}
+use Rattle.room.specs.Blocks.{unlockAccepts, blockAccepted, acceptedOf, unlockMismatch, mismatchOf, restarts, countedOf, mismatchesFrom}
 use Rattle.room.specs.Claims.{securityIn, JustPoweredOn, AttemptsCounted, ShutAfterFive, OpensBeforeFive}
+use Rattle.room.proofs.Completed.{completed, completed-other}
 use Rattle.room.proofs.Kept.{guest-locked}
 use Rattle.room.proofs.GuestStep.{guestLeaves, step-guest}
 use Rattle.room.proofs.Started.{started-face, started-whole}
@@ -53,27 +50,12 @@ mismatch-refused s x Unlock b e =
 mismatch-refused s x Erase b e = absurd (false≢true e)
 mismatch-refused s x Disable b e = absurd (false≢true e)
 
-word-mismatch : (f : Face) (x : Secrets) (w : ℕ) (t : Transfer) → completedAs (unlockMismatch (f .settled .security) x) f w t ≡ true
-    → LockedRefusal (f .settled .security) (completedAs (blockAccepted (f .settled .security) x) f w t)
-word-mismatch f x w Idle e = absurd (false≢true e)
-word-mismatch f x w (Reading r) e = absurd (false≢true e)
-word-mismatch f x w (Writing r) e = absurd (false≢true e)
-word-mismatch f x w (ReadingBuffer n) e = absurd (false≢true e)
-word-mismatch f x w (WritingBuffer n) e = absurd (false≢true e)
-word-mismatch f x w (TakingPassword b) e =
-    either-way (ltb (b .word) 255)
-    (λ q. absurd (false≢true (simp q at e)))
-    (λ q. let r = mismatch-refused (f .settled .security) x (b .purpose) _ (simp q at e) in (r .0, rw q (r .1)))
-
 mismatch-locked : (d : Device) (a : Action) → mismatchOf d a ≡ true → LockedRefusal (securityIn d) (acceptedOf d a)
-unfolding mismatchOf acceptedOf completedOf
-mismatch-locked d (ReadRegister n) e = absurd (false≢true e)
-mismatch-locked d (WriteRegister n v) e = absurd (false≢true e)
-mismatch-locked d ReadWord e = absurd (false≢true e)
-mismatch-locked d (WriteWord w) e = word-mismatch (d .face) (d .secrets) w (d .face .hot .transfer) e
-mismatch-locked d HardwareReset e = absurd (false≢true e)
-mismatch-locked d PowerOn e = absurd (false≢true e)
-mismatch-locked d Line e = absurd (false≢true e)
+unfolding mismatchOf acceptedOf
+mismatch-locked d a e =
+    let c = completed (unlockMismatch (securityIn d) (d .secrets)) (d .face) a e in
+    let r = mismatch-refused (securityIn d) (d .secrets) (c .block .purpose) _ (c .passes) in
+    (r .0, completed-other _ (blockAccepted (securityIn d) (d .secrets)) (d .face) a c ∙ r .1)
 
 -- ---- with no attempts left it is locked
 

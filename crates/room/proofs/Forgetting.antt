@@ -14,7 +14,6 @@ use Rattle.face.specs.Reads.{isIdle}
 use Rattle.face.specs.Ends.{clearedOf}
 use Rattle.face.specs.declared.PasswordBlock.{PasswordBlock}
 use Rattle.face.specs.declared.Transfer.the-variants.{TakingPassword}
-use Rattle.face.specs.declared.Hot.{Hot}
 use Rattle.face.specs.declared.Face.{Face}
 use Rattle.face.specs.declared.Action.{Action}
 use Rattle.face.specs.declared.Action.the-variants.{ReadRegister, WriteRegister, ReadWord, WriteWord, HardwareReset, PowerOn, Line}
@@ -25,7 +24,7 @@ use Rattle.fastpath.specs.Dev.{devSet, ignoredOf}
 use Rattle.transfers.specs.Words.{told, wordIn}
 use Rattle.transfers.specs.declared.Told.{Told}
 use Rattle.commands.specs.Gate.{begunOf, stationsOf, commandOf}
-use Rattle.shape.specs.Shape.{heldFits, diskFits}
+use Rattle.shape.specs.Shape.{diskFits}
 use Rattle.shape.proofs.Clauses.{shape-clauses}
 use Rattle.password.specs.Passwords.{passwordEnded}
 use Rattle.effects.specs.Effects.{effect}
@@ -34,6 +33,7 @@ use Rattle.device.specs.Alone.{Step, stepAs, aloneOf}
 use Rattle.device.specs.Host.{Ready, shapedOf, stepOf}
 use Rattle.device.specs.declared.Device.{Device}
 use Rattle.device.proofs.Memories.{shaped-disk}
+use Rattle.laws.proofs.Shape.{open-free}
 use Rattle.laws.proofs.Reached.{open-clear}
 use Rattle.laws.proofs.Opens.{ended-hot, blockWith, last-word}
 use Rattle.laws.proofs.Steps.{ready-step, clear-acts}
@@ -61,11 +61,6 @@ command-forgets : (f : Face) (c m : List ℕ) (code : ℕ) (b : PasswordBlock) �
     → commandOf f m code ≡ commandOf (withBuffer f c) m code
 unfolding commandOf
 command-forgets f c m code b e h = simp h (ap (λ (g : Face). stationsOf g m code) (begun-forgets f c b e))
-
--- a transfer is open: no reset is held, and DEV is clear
-open-held : (h : Hot) → heldFits h ≡ true → isIdle (h .transfer) ≡ false → h .signals .held ≡ false
-unfolding heldFits
-open-held h e o = either-way (h .signals .held) (λ q. absurd (false≢true (sym o ∙ (simp q at e)))) (λ q. q)
 
 register-forgets : (d : Device) (m c : List ℕ) (n v : ℕ) → devSet (d .face .hot) ≡ false → writeRegisterOf (d .face) m n v ≡ writeRegisterOf (withBuffer (d .face) c) m n v
     → aloneOf d m (WriteRegister n v) ≡ aloneOf (holding d c) m (WriteRegister n v)
@@ -110,6 +105,6 @@ forgets-blocks d m b k e =
       judged = λ w h. judged-zero d m b w k e h;
       dropped =
           λ a c h. ready-step d m a k
-          ∙ alone-forgets d m c b a e (open-held (d .face .hot) (shape-clauses (d .face) (p .0) .held) o) (open-clear (d .face .hot) (p .1) o) h
+          ∙ alone-forgets d m c b a e (open-free (d .face) (shape-clauses (d .face) (p .0)) o) (open-clear (d .face .hot) (p .1) o) h
           ∙ sym (ready-step (holding d c) m a (holding-ready d m c k));
     }

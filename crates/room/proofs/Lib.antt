@@ -1,10 +1,11 @@
+pub mod Completed
 pub mod Kept
 pub mod GuestStep
 pub mod Started
 pub mod Secrecy
-pub mod Forgetting
+pub mod Acceptance
 pub mod Counting
 pub mod Shutting
 pub mod Opening
 pub mod FiveMismatches
-pub mod Acceptance
+pub mod Forgetting

@@ -1,10 +1,8 @@
 -- Demand 3: by induction on the actions, a locked device that accepts no block answers as its face says and keeps its passwords and sectors; just powered-on, the face is the same.
 use mathlib.Core.Path.{_≡_, refl, sym, ap, _∙_}
-use mathlib.Core.Bool.{Bool, true, false}
+use mathlib.Core.Bool.{true}
 use mathlib.Core.List.{List, [], _∷_}
 use Prim.Native.Nat.{ℕ}
-use Rattle.base.specs.Choice.{pick}
-use Rattle.base.proofs.Tests.{false≢true}
 use Rattle.lock.specs.Lock.{isLocked}
 use Rattle.lock.proofs.Sound.{fits-sound}
 use Rattle.settled.proofs.Clauses.{settled-clauses}
@@ -15,6 +13,7 @@ use Rattle.device.specs.Alone.{deviceOf, Step}
 use Rattle.device.specs.Host.{Ready, stepOf}
 use Rattle.device.specs.declared.Device.{Device}
 use Rattle.device.proofs.Memories.{shaped-disk}
+use Rattle.laws.proofs.Shape.{guard}
 use Rattle.laws.proofs.Steps.{ready-step, ready-after}
 use Rattle.room.specs.Sessions.{Session, led, sessionOf}
 use Rattle.room.specs.Blocks.{acceptedOf, neverAccepted}
@@ -41,15 +40,11 @@ guest-ready d m a k e = ready-after d m a (guestLeaves d m a) k (sym (ready-step
 
 -- ---- any actions
 
-pub never-first : (b x : Bool) → pick b false x ≡ true → (b ≡ false) × (x ≡ true)
-never-first true x e = absurd (false≢true e)
-never-first false x e = (refl, e)
-
 pub answers-by-face : AnswersByFace stepOf
 unfolding sessionOf neverAccepted guestAnswers guestFace
 answers-by-face d m [] k h e = refl
 answers-by-face d m (a ∷ l) k h e =
-    let g = never-first (acceptedOf d a) _ e in
+    let g = guard (acceptedOf d a) _ e in
     let s = step-guest d m a k h (g .0) in
     let rest =
     answers-by-face (guestLeft d a) m l (guest-ready d m a k s) (guest-locked (d .face) a h (locked-enabled d m k h))

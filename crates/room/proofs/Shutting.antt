@@ -4,10 +4,9 @@ use mathlib.Core.Bool.{Bool, true, false, not}
 use mathlib.Core.List.{List, [], _∷_}
 use Prim.Native.Nat.{ℕ, _+_, _≤_}
 use native.Mathlib.Omega.{arith}
-use lib.Dec.{ltb}
 use borrow.Author.Tests.{eq-eqb}
 use Rattle.base.specs.Choice.{pick, within}
-use Rattle.base.proofs.Tests.{false≢true, pick-both}
+use Rattle.base.proofs.Tests.{false≢true, pick-both, either-way}
 use Rattle.lock.specs.Lock.{isLocked, isFrozen, exhaustedOf, cannotErase}
 use Rattle.lock.specs.declared.Security.{Security}
 use Rattle.lock.specs.declared.Secrets.{Secrets}
@@ -17,12 +16,10 @@ use Rattle.codes.specs.Commands.{codedOf, decodeOf}
 use Rattle.codes.specs.MayRun.{mayRunOf}
 use Rattle.face.specs.Reads.{statusOf}
 use Rattle.face.specs.declared.Signals.{Signals}
-use Rattle.face.specs.declared.Transfer.{Transfer}
-use Rattle.face.specs.declared.Transfer.the-variants.{Idle, Reading, Writing, ReadingBuffer, WritingBuffer, TakingPassword}
 use Rattle.face.specs.declared.Hot.{Hot}
 use Rattle.face.specs.declared.Face.{Face}
 use Rattle.face.specs.declared.Action.{Action}
-use Rattle.face.specs.declared.Action.the-variants.{ReadRegister, WriteRegister, ReadWord, WriteWord, HardwareReset, PowerOn, Line}
+use Rattle.face.specs.declared.Action.the-variants.{WriteRegister}
 use Rattle.transfers.specs.Sectors.{abortFace}
 use Rattle.commands.specs.Gate.{begunOf, abortAtOnce, stationsOf, commandOf}
 use Rattle.shape.specs.Shape.{passwordFits, transferFits}
@@ -32,16 +29,17 @@ use Rattle.device.specs.Alone.{Step}
 use Rattle.device.specs.Host.{Ready, stepOf}
 use Rattle.device.specs.declared.Device.{Device}
 use Rattle.device.proofs.Memories.{shaped-disk}
-use Rattle.laws.proofs.Shape.{drop-leaves}
+use Rattle.laws.proofs.Shape.{guard, drop-leaves}
 use Rattle.laws.proofs.Settling.{drop-settles}
 use Rattle.laws.proofs.Steps.{ready-step, clear-acts}
 use Rattle.room.specs.Sessions.{Session, sessionOf}
-use Rattle.room.specs.Blocks.{completedAs, completedOf, blockAccepted, acceptedOf, mismatchOf, restarts, countedOf, neverRestarts}
+use Rattle.room.specs.Blocks.{blockAccepted, acceptedOf, mismatchOf, restarts, countedOf, neverRestarts}
 use Rattle.room.specs.Claims.{securityIn, Aborted, UnlockAborts}
+use Rattle.room.proofs.Completed.{completed}
 use Rattle.room.proofs.Kept.{guest-locked}
 use Rattle.room.proofs.GuestStep.{guestLeaves, step-guest}
-use Rattle.room.proofs.Secrecy.{locked-enabled, guestLeft, guest-ready, never-first}
-use Rattle.room.proofs.Counting.{left-closed, Five, step-five}
+use Rattle.room.proofs.Secrecy.{locked-enabled, guestLeft, guest-ready}
+use Rattle.room.proofs.Counting.{left-closed, Five, unlock-fits, step-five}
 
 -- ---- nothing is accepted
 
@@ -49,11 +47,7 @@ use Rattle.room.proofs.Counting.{left-closed, Five, step-five}
 none-refuses : (s : Security) (x : Secrets) (p : Purpose) (b : List ℕ) → exhaustedOf s ≡ true → passwordFits s p ≡ true → blockAccepted s x p b ≡ false
 unfolding passwordFits cannotErase
 none-refuses s x Set b e k = refl
-none-refuses s x Unlock b e k = absurd (unfit (isFrozen (s .lock)) (simp e at k))
-  where
-    unfit : (frozen : Bool) → pick frozen false false ≡ true → ⊥
-    unfit true q = false≢true q
-    unfit false q = false≢true q
+none-refuses s x Unlock b e k = absurd (false≢true (sym (unlock-fits s k) ∙ e))
 none-refuses s x Erase b e k = absurd (unfit (isFrozen (s .lock)) (s .prepared) (simp e at k))
   where
     unfit : (frozen prepared : Bool) → pick frozen false (not (pick prepared true true)) ≡ true → ⊥
@@ -61,16 +55,6 @@ none-refuses s x Erase b e k = absurd (unfit (isFrozen (s .lock)) (s .prepared) 
     unfit false true q = false≢true q
     unfit false false q = false≢true q
 none-refuses s x Disable b e k = refl
-
-word-refuses : (f : Face) (x : Secrets) (w : ℕ) (t : Transfer) → exhaustedOf (f .settled .security) ≡ true → transferFits (f .settled) t ≡ true
-    → completedAs (blockAccepted (f .settled .security) x) f w t ≡ false
-word-refuses f x w Idle e k = refl
-word-refuses f x w (Reading r) e k = refl
-word-refuses f x w (Writing r) e k = refl
-word-refuses f x w (ReadingBuffer n) e k = refl
-word-refuses f x w (WritingBuffer n) e k = refl
-word-refuses f x w (TakingPassword b) e k =
-    pick-both (λ (a : Bool). a ≡ false) (ltb (b .word) 255) _ _ refl (none-refuses (f .settled .security) x (b .purpose) _ e k)
 
 -- locked, in shape, and five mismatches counted
 pub record Shut (d : Device) (m : List ℕ) : Type 0 where
@@ -86,15 +70,14 @@ unfolding exhaustedOf
 shut-exhausted {d} k = eq-eqb _ _ (shut-none k)
 
 shut-refuses : (d : Device) (m : List ℕ) (a : Action) → Shut d m → acceptedOf d a ≡ false
-unfolding acceptedOf completedOf
-shut-refuses d m (ReadRegister n) k = refl
-shut-refuses d m (WriteRegister n v) k = refl
-shut-refuses d m ReadWord k = refl
-shut-refuses d m (WriteWord w) k =
-    word-refuses (d .face) (d .secrets) w (d .face .hot .transfer) (shut-exhausted k) (shape-clauses (d .face) (shaped-disk d (k .ready .shaped) .0) .fits)
-shut-refuses d m HardwareReset k = refl
-shut-refuses d m PowerOn k = refl
-shut-refuses d m Line k = refl
+unfolding acceptedOf
+shut-refuses d m a k =
+    either-way (acceptedOf d a)
+    (λ e.
+    let c = completed (blockAccepted (securityIn d) (d .secrets)) (d .face) a e in
+    let fits = sym (ap (transferFits (d .face .settled)) (c .opened)) ∙ shape-clauses (d .face) (shaped-disk d (k .ready .shaped) .0) .fits in
+    absurd (false≢true (sym (none-refuses (securityIn d) (d .secrets) (c .block .purpose) _ (shut-exhausted k) fits) ∙ c .passes)))
+    (λ e. e)
 
 -- ---- so it stays shut
 
@@ -132,7 +115,7 @@ pub shut-session : (d : Device) (m : List ℕ) (l : List Action) → Shut d m �
 unfolding sessionOf neverRestarts
 shut-session d m [] k e = record { shut = k; sectors = refl; passwords = refl }
 shut-session d m (a ∷ l) k e =
-    let q = never-first (restarts a) (neverRestarts l) e in
+    let q = guard (restarts a) (neverRestarts l) e in
     let t = shut-session (guestLeft d a) m l (shut-stays d m a k (q .0)) (q .1) in
     rw (shut-step d m a k) (record { shut = t .shut; sectors = t .sectors; passwords = t .passwords })
 
