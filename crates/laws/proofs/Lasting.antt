@@ -135,12 +135,12 @@ pub drop-lasts : {m : List ℕ} {P : Face → Type 0} → Lasts m P → (f : Fac
 unfolding droppedOf
 drop-lasts c f p = drop-as-lasts c (idleFace f) (f .hot .transfer) (c .hot f _ p)
 
-pub command-lasts : {m : List ℕ} {P : Face → Type 0} → Lasts m P → (f : Face) (code : ℕ) → P f → P (commandOf f m code)
+command-lasts : {m : List ℕ} {P : Face → Type 0} → Lasts m P → (f : Face) (code : ℕ) → P f → P (commandOf f m code)
 unfolding commandOf begunOf
 command-lasts {m} {P} c f code p =
     pick-both P (f .hot .signals .held) _ _ p (stations-lasts c (begunOf f) code (c .hot (droppedOf f) _ (drop-lasts c f p)))
 
-pub control-lasts : {m : List ℕ} {P : Face → Type 0} → Lasts m P → (f : Face) (v : ℕ) → P f → P (controlOf f v)
+control-lasts : {m : List ℕ} {P : Face → Type 0} → Lasts m P → (f : Face) (v : ℕ) → P f → P (controlOf f v)
 unfolding controlOf
 control-lasts {m} {P} c f v p =
     pick-both P (srstOf v) _ _ (c .zeroed _ (c .unprepared _ (c .factory (withHot f _) (c .hot f _ p)))) (c .hot f _ p)

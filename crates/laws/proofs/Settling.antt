@@ -15,13 +15,11 @@ use Rattle.face.specs.declared.Transfer.{Transfer}
 use Rattle.face.specs.declared.Transfer.the-variants.{TakingPassword}
 use Rattle.face.specs.declared.Face.{Face}
 use Rattle.face.specs.declared.Action.{Action}
-use Rattle.resets.specs.Control.{controlOf}
 use Rattle.resets.specs.Resets.{droppedOf}
 use Rattle.reading.specs.Words.{readWordAs}
-use Rattle.commands.specs.Gate.{commandOf}
 use Rattle.password.specs.Passwords.{passwordWord}
 use Rattle.disk.specs.Actions.{writeRegisterOf, writeWordAs, actOf}
-use Rattle.laws.proofs.Lasting.{Lasts, drop-lasts, command-lasts, control-lasts, write-register-lasts, read-word-lasts, write-word-lasts, act-lasts}
+use Rattle.laws.proofs.Lasting.{Lasts, drop-lasts, write-register-lasts, read-word-lasts, write-word-lasts, act-lasts}
 
 -- a property of the settled part that each change of it keeps, but for power-on and judged password blocks
 pub record Closed (P : Settled → Type 0) : Type 0 where
@@ -48,12 +46,6 @@ lasts c m =
 
 pub drop-settles : {P : Settled → Type 0} → Closed P → (f : Face) → P (f .settled) → P (droppedOf f .settled)
 drop-settles c f p = drop-lasts (lasts c []) f p
-
-pub command-settles : {P : Settled → Type 0} → Closed P → (f : Face) (m : List ℕ) (code : ℕ) → P (f .settled) → P (commandOf f m code .settled)
-command-settles c f m code p = command-lasts (lasts c m) f code p
-
-pub control-settles : {P : Settled → Type 0} → Closed P → (f : Face) (v : ℕ) → P (f .settled) → P (controlOf f v .settled)
-control-settles c f v p = control-lasts (lasts c []) f v p
 
 pub write-register-settles : {P : Settled → Type 0} → Closed P → (f : Face) (m : List ℕ) (n v : ℕ) → P (f .settled) → P (writeRegisterOf f m n v .face .settled)
 write-register-settles c f m n v p = write-register-lasts (lasts c m) f n v p
