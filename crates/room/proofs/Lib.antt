@@ -1,1 +1,4 @@
 pub mod GuestStep
+pub mod InShape
+pub mod Shown
+pub mod TwelveNumbers
