@@ -1,4 +1,9 @@
 pub mod GuestStep
+pub mod Running
 pub mod InShape
 pub mod Shown
 pub mod TwelveNumbers
+pub mod OneSector
+pub mod WrongRules
+pub mod Leaks
+pub mod BlockLeaks

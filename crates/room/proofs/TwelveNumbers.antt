@@ -4,36 +4,22 @@ use mathlib.Core.Path.{_≡_, refl, ap, _∙_}
 use mathlib.Core.Bool.{Bool, true, false}
 use mathlib.Core.List.{List, [], _∷_, _++_}
 use lib.ListN.{length, drop, replicate}
-use Rattle.base.specs.Choice.{within}
-use Rattle.geometry.specs.Geometry.{maxCylinders, maxHeads, maxSectors, geometryFits, capacityOf}
+use Rattle.geometry.specs.Geometry.{geometryFits, capacityOf}
 use Rattle.geometry.specs.Translation.{factoryOf, initializedOf}
 use Rattle.geometry.specs.declared.Initialized.the-variants.{To}
-use Rattle.address.specs.Registers.{lbaSelected, lbaOf, headOf}
-use Rattle.address.specs.Address.{names, lbaAddress, addressOf}
+use Rattle.address.specs.Registers.{lbaSelected}
+use Rattle.address.specs.Address.{names, addressOf}
 use Rattle.address.specs.declared.AddressRegisters.{AddressRegisters}
 use Rattle.address.specs.declared.Address.the-variants.{Faults}
 use Rattle.address.proofs.Numbers.{small, atChs, atLba, numbers}
-use Rattle.successor.specs.Successor.{lbaSuccessor, successorOf}
 use Rattle.block.specs.Sectors.{sectorAt}
-use Rattle.lock.specs.Lock.{startingLock}
 use Rattle.lock.specs.declared.Lock.the-variants.{Open, Locked, Frozen}
-use Rattle.codes.specs.Commands.{codedOf, decodeOf}
-use Rattle.codes.specs.MayRun.{mayRunOf}
 use Rattle.settled.specs.Identity.{identityFits}
 use Rattle.settled.specs.declared.Identity.{Identity}
 use Rattle.identify.specs.SecurityWord.{securityWord}
 use Rattle.identify.proofs.SecurityNumbers.{settings, security-numbers}
-use Rattle.face.specs.Reads.{statusOf, readRegister}
-use Rattle.face.specs.Writes.{busyOf, storeRegister, putRegister}
 use Rattle.face.specs.declared.Action.{Action}
 use Rattle.face.specs.declared.Action.the-variants.{ReadRegister, WriteRegister, ReadWord}
-use Rattle.resets.specs.Resets.{droppedOf}
-use Rattle.transfers.specs.Sectors.{afterOf, notFoundOf}
-use Rattle.reading.specs.Sectors.{readAt, readSectorsOf}
-use Rattle.reading.specs.Words.{readNextOf, readRunOf, readWordOf}
-use Rattle.commands.specs.Gate.{begunOf, stationsOf, commandOf}
-use Rattle.fastpath.specs.Dev.{devSet, ignoredOf}
-use Rattle.disk.specs.Actions.{writeRegisterOf, actOf}
 use Rattle.device.specs.Alone.{aloneOf}
 use Rattle.device.specs.Host.{Ready, stepOf}
 use Rattle.device.specs.Setup.{freshOf}
@@ -41,6 +27,7 @@ use Rattle.device.specs.declared.Device.{Device}
 use Rattle.laws.proofs.Reached.{fresh-shaped}
 use Rattle.laws.proofs.ReadBack.{wordsFrom}
 use Rattle.room.specs.Sessions.{Rules, Session, sessionOf}
+use Rattle.room.proofs.Running.{running}
 use Rattle.room.proofs.InShape.{writesNoWord, alone-session}
 use Rattle.room.proofs.Shown.{valuesOf, lastValue, registerAfter}
 
@@ -59,15 +46,15 @@ pub record EndsAfter256 (r : Rules) (d : Device) (m : List ℕ) : Type 0 where
   pub words : valuesOf (drop 6 (sessionOf r d m (readingOn 256) .answers)) ≡ wordsFrom (sectorAt m 63) 0 256
 
 ends-alone : (i : Identity) (p m : List ℕ) → EndsAfter256 aloneOf (freshOf small i p) m
-unfolding sessionOf aloneOf ignoredOf devSet actOf writeRegisterOf within putRegister busyOf storeRegister commandOf begunOf droppedOf stationsOf mayRunOf decodeOf codedOf readSectorsOf readAt afterOf addressOf lbaSelected lbaAddress lbaOf headOf capacityOf startingLock readWordOf readRunOf readNextOf successorOf lbaSuccessor notFoundOf readRegister statusOf wordsFrom
+unfolding running wordsFrom
 ends-alone i p m = record { due = refl; over = refl; error = refl; count = refl; words = refl }
 
 small-fits : geometryFits small ≡ true
-unfolding geometryFits within maxCylinders maxHeads maxSectors
+unfolding running
 small-fits = refl
 
 fresh-ready : (i : Identity) (p m : List ℕ) → identityFits i ≡ true → length m ≡ 32768 → Ready (freshOf small i p) m
-unfolding capacityOf
+unfolding running
 fresh-ready i p m f l = record { shaped = fresh-shaped small i p small-fits f; long = l }
 
 ends : (i : Identity) (p m : List ℕ) → identityFits i ≡ true → length m ≡ 32768 → EndsAfter256 stepOf (freshOf small i p) m
