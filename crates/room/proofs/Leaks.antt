@@ -13,7 +13,7 @@ use Rattle.room.specs.Blocks.{neverAccepted}
 use Rattle.room.specs.Claims.{holding, Guarded, AlikeOutside, KeepsTheSecret}
 use Rattle.room.proofs.Running.{runningOnBytes}
 use Rattle.room.proofs.Shown.{lastValue}
-use Rattle.room.proofs.OneSector.{lockedAt, passwords, filled, blockOf, unlockingThenStatus, opened, locked-ready, guarded}
+use Rattle.room.proofs.OneSector.{lockedAt, passwords, filled, blockOf, unlockingThenStatus, opened, locked-ready, guarded, alike-at}
 use Rattle.room.proofs.WrongRules.{startKeepsBuffer, compares31Bytes, takesMasterAtMaximum, identifiesASector}
 
 -- ---- demand 3
@@ -36,9 +36,6 @@ not-kept t apart k =
     (sym (t .first .last)
     ∙ ap lastValue (k _ _ _ _ _ (t .first .guarded) (t .second .guarded) (t .alike) (t .first .never) (t .second .never) .answers)
     ∙ t .second .last)
-
-alike-at : (maximum : Bool) (x y : Secrets) → AlikeOutside (lockedAt maximum x) (lockedAt maximum y)
-alike-at maximum x y = record { geometry = refl; identity = refl; level = refl }
 
 -- a block that is right but for the 32nd byte opens one of them
 pub compares31Bytes-run : TellsApart compares31Bytes (lockedAt false (passwords 1 7)) (lockedAt false (passwords 2 7)) (filled 0) (filled 0)

@@ -7,3 +7,4 @@ pub mod OneSector
 pub mod WrongRules
 pub mod Leaks
 pub mod BlockLeaks
+pub mod Witnesses

@@ -17,7 +17,7 @@ use Rattle.device.specs.Host.{Ready}
 use Rattle.device.specs.declared.Device.{Device}
 use Rattle.room.specs.Sessions.{Rules}
 use Rattle.room.specs.Started.{startedFace}
-use Rattle.room.specs.Claims.{securityIn, holding, Guarded}
+use Rattle.room.specs.Claims.{securityIn, holding, Guarded, AlikeOutside}
 use Rattle.room.proofs.Running.{running}
 
 -- an identity of spaces
@@ -63,3 +63,7 @@ pub guarded : (r : Rules) (maximum : Bool) (x : Secrets) (m : List ℕ) → leng
 guarded r maximum x m l s =
     let k = locked-ready maximum x (lockedAt maximum x .face .buffer) m l in
     record { ready = k; started = record { before = lockedAt maximum x; memory = m; ready = k; left = s }; enabled = refl }
+
+-- two such disks are alike outside, whatever their passwords
+pub alike-at : (maximum : Bool) (x y : Secrets) → AlikeOutside (lockedAt maximum x) (lockedAt maximum y)
+alike-at maximum x y = record { geometry = refl; identity = refl; level = refl }
