@@ -9,3 +9,12 @@ pub mod Shutting
 pub mod Opening
 pub mod FiveMismatches
 pub mod Forgetting
+pub mod Running
+pub mod InShape
+pub mod Shown
+pub mod TwelveNumbers
+pub mod OneSector
+pub mod Witnesses
+pub mod WrongRules
+pub mod Leaks
+pub mod BlockLeaks
