@@ -52,7 +52,7 @@ sector-length : (m : List ℕ) (n : ℕ) → 512 * n + 512 ≤ length m → leng
 unfolding sectorAt
 sector-length m n h = length-take-le 512 (drop (512 * n) m) (simp length-drop (omega arith))
 
-zero-length : length zeroBlock ≡ 512
+pub zero-length : length zeroBlock ≡ 512
 unfolding zeroBlock
 zero-length = length-replicate {A = ℕ} 512 0
 

@@ -21,7 +21,7 @@ use Rattle.room.specs.Sessions.{Session, given, sessionOf}
 use Rattle.room.specs.Blocks.{mismatchesFrom, neverRestarts}
 use Rattle.room.specs.Claims.{securityIn, Guarded, ShutOut, ForgetsBlocks, ShutAfterFive}
 use Rattle.room.proofs.Running.{runningOnBytes}
-use Rattle.room.proofs.Shown.{valuesOf}
+use Rattle.room.specs.Sessions.{valuesOf}
 use Rattle.room.proofs.OneSector.{lockedAt, passwords, filled, blockOf, unlocking, guarded}
 use Rattle.room.proofs.WrongRules.{judgedBlockStays, cutBlockStays, softResetGivesAttempts}
 

@@ -12,7 +12,7 @@ use Rattle.room.specs.Sessions.{Rules, sessionOf}
 use Rattle.room.specs.Blocks.{neverAccepted}
 use Rattle.room.specs.Claims.{holding, Guarded, AlikeOutside, KeepsTheSecret}
 use Rattle.room.proofs.Running.{runningOnBytes}
-use Rattle.room.proofs.Shown.{lastValue}
+use Rattle.room.specs.Sessions.{lastValue}
 use Rattle.room.proofs.OneSector.{lockedAt, passwords, filled, blockOf, unlockingThenStatus, opened, locked-ready, guarded, alike-at}
 use Rattle.room.proofs.WrongRules.{startKeepsBuffer, compares31Bytes, takesMasterAtMaximum, identifiesASector}
 

@@ -1,6 +1,7 @@
 pub mod Completed
 pub mod Kept
 pub mod GuestStep
+pub mod InShape
 pub mod Started
 pub mod Secrecy
 pub mod Acceptance
@@ -10,8 +11,6 @@ pub mod Opening
 pub mod FiveMismatches
 pub mod Forgetting
 pub mod Running
-pub mod InShape
-pub mod Shown
 pub mod TwelveNumbers
 pub mod OneSector
 pub mod Witnesses

@@ -21,12 +21,12 @@ use Rattle.room.specs.Claims.{securityIn, holding, Guarded, AlikeOutside
 use Rattle.room.proofs.Running.{running}
 
 -- an identity of spaces
-abbrev pub spaces : Identity
-spaces = record { serial = replicate 20 0x20; firmware = replicate 8 0x20; model = replicate 40 0x20 }
+abbrev pub blankIdentity : Identity
+blankIdentity = record { serial = replicate 20 0x20; firmware = replicate 8 0x20; model = replicate 40 0x20 }
 
 -- locked at that level, with these passwords
 abbrev pub lockedAt : Bool → Secrets → Device
-lockedAt maximum x = deviceOf (startedFace (geometryOf 1 1 1) spaces maximum true) x
+lockedAt maximum x = deviceOf (startedFace (geometryOf 1 1 1) blankIdentity maximum true) x
 
 -- a device with its lock opened
 abbrev pub opened : Device → Device

@@ -15,10 +15,11 @@ use Rattle.device.specs.Alone.{Step, aloneOf}
 use Rattle.device.specs.Host.{Ready, stepOf}
 use Rattle.device.specs.declared.Device.{Device}
 use Rattle.laws.proofs.Steps.{ready-step}
-use Rattle.laws.proofs.Lengths.{Whole, step-whole}
+use Rattle.laws.proofs.Lengths.{Whole}
 use Rattle.room.specs.Sessions.{sessionOf}
 use Rattle.room.specs.Started.{startedFace}
 use Rattle.room.specs.Claims.{securityIn, JustPoweredOn, Guarded, LeavesNothingElse, WhateverCameBefore}
+use Rattle.room.proofs.InShape.{session-whole}
 
 -- what power-on and hardware reset leave
 pub leaves-nothing-else : LeavesNothingElse stepOf
@@ -49,11 +50,6 @@ guarded-locked g = ap (λ (f : Face). isLocked (f .settled .security .lock)) (gu
 pub started-whole : (d : Device) (m : List ℕ) → Ready d m → JustPoweredOn stepOf d → Whole d m
 unfolding zeroBlock
 started-whole d m k p = record { ready = k; block = ap (λ (f : Face). length (f .buffer)) (started-face d p) ∙ length-replicate {A = ℕ} 512 0 }
-
-session-whole : (d : Device) (m : List ℕ) (l : List Action) → Whole d m → Whole (sessionOf stepOf d m l .device) (sessionOf stepOf d m l .sectors)
-unfolding sessionOf
-session-whole d m [] k = k
-session-whole d m (a ∷ l) k = session-whole _ _ l (step-whole d m a k)
 
 pub whatever-came-before : WhateverCameBefore stepOf
 whatever-came-before d m l k = leaves-nothing-else _ _ (session-whole d m l k .ready)

@@ -25,25 +25,13 @@ use Rattle.device.specs.Host.{Ready, stepOf}
 use Rattle.device.specs.Setup.{freshOf}
 use Rattle.device.specs.declared.Device.{Device}
 use Rattle.laws.proofs.Reached.{fresh-shaped}
+use Rattle.laws.proofs.Lengths.{Whole, zero-length}
 use Rattle.laws.proofs.ReadBack.{wordsFrom}
 use Rattle.room.specs.Sessions.{Rules, Session, sessionOf}
+use Rattle.room.specs.TwelveNumbers.{readingOn, EndsAfter256, TwelveNumbers}
 use Rattle.room.proofs.Running.{running}
-use Rattle.room.proofs.InShape.{writesNoWord, alone-session}
-use Rattle.room.proofs.Shown.{valuesOf, lastValue, registerAfter}
-
--- "reading LBA 63 with count 2", n data words of it
-abbrev pub readingOn : ℕ → List Action
-readingOn n =
-    WriteRegister 2 2 ∷ WriteRegister 3 63 ∷ WriteRegister 4 0 ∷ WriteRegister 5 0 ∷ WriteRegister 6 0x40 ∷ WriteRegister 7 0x20
-    ∷ replicate n ReadWord
-
--- it "ends after 256 words with Error 10h, count 1": a word is due after 255 of them, none after 256, and they are sector 63
-pub record EndsAfter256 (r : Rules) (d : Device) (m : List ℕ) : Type 0 where
-  pub due : registerAfter r d m (readingOn 255) 7 ≡ 0x58
-  pub over : registerAfter r d m (readingOn 256) 7 ≡ 0x51
-  pub error : registerAfter r d m (readingOn 256) 1 ≡ 0x10
-  pub count : registerAfter r d m (readingOn 256) 2 ≡ 1
-  pub words : valuesOf (drop 6 (sessionOf r d m (readingOn 256) .answers)) ≡ wordsFrom (sectorAt m 63) 0 256
+use Rattle.room.proofs.InShape.{alone-session}
+use Rattle.room.specs.Sessions.{valuesOf, lastValue, registerAfter}
 
 ends-alone : (i : Identity) (p m : List ℕ) → EndsAfter256 aloneOf (freshOf small i p) m
 unfolding running wordsFrom
@@ -53,43 +41,28 @@ small-fits : geometryFits small ≡ true
 unfolding running
 small-fits = refl
 
-fresh-ready : (i : Identity) (p m : List ℕ) → identityFits i ≡ true → length m ≡ 32768 → Ready (freshOf small i p) m
+fresh-whole : (i : Identity) (p m : List ℕ) → identityFits i ≡ true → length m ≡ 32768 → Whole (freshOf small i p) m
 unfolding running
-fresh-ready i p m f l = record { shaped = fresh-shaped small i p small-fits f; long = l }
+fresh-whole i p m f l = record { ready = record { shaped = fresh-shaped small i p small-fits f; long = l }; block = zero-length }
 
 ends : (i : Identity) (p m : List ℕ) → identityFits i ≡ true → length m ≡ 32768 → EndsAfter256 stepOf (freshOf small i p) m
 ends i p m f l =
     record {
-      due = same (readingOn 255) 7 refl ∙ alone .due;
-      over = same (readingOn 256) 7 refl ∙ alone .over;
-      error = same (readingOn 256) 1 refl ∙ alone .error;
-      count = same (readingOn 256) 2 refl ∙ alone .count;
-      words = ap (λ (s : Session). valuesOf (drop 6 (s .answers))) (run (readingOn 256) refl) ∙ alone .words;
+      due = same (readingOn 255) 7 ∙ alone .due;
+      over = same (readingOn 256) 7 ∙ alone .over;
+      error = same (readingOn 256) 1 ∙ alone .error;
+      count = same (readingOn 256) 2 ∙ alone .count;
+      words = ap (λ (s : Session). valuesOf (drop 6 (s .answers))) (run (readingOn 256)) ∙ alone .words;
     }
   where
     alone : EndsAfter256 aloneOf (freshOf small i p) m
     alone = ends-alone i p m
 
-    run : (a : List Action) → writesNoWord a ≡ true → sessionOf stepOf (freshOf small i p) m a ≡ sessionOf aloneOf (freshOf small i p) m a
-    run a w = alone-session (freshOf small i p) m a (fresh-ready i p m f l) w
+    run : (a : List Action) → sessionOf stepOf (freshOf small i p) m a ≡ sessionOf aloneOf (freshOf small i p) m a
+    run a = alone-session (freshOf small i p) m a (fresh-whole i p m f l)
 
-    same : (a : List Action) (n : ℕ) → writesNoWord (a ++ (ReadRegister n ∷ [])) ≡ true → registerAfter stepOf (freshOf small i p) m a n ≡ registerAfter aloneOf (freshOf small i p) m a n
-    same a n w = ap (λ (s : Session). lastValue (s .answers)) (run (a ++ (ReadRegister n ∷ [])) w)
-
--- "Proved together over the definitions, as a single list"
-pub record TwelveNumbers : Type 0 where
-  pub number1 : capacityOf small ≡ 64
-  pub number2 : atChs 0 0 1 ≡ names 0
-  pub number3 : atChs 3 1 8 ≡ names 63
-  pub number4 : atChs 4 0 1 ≡ Faults
-  pub number5 : (r : AddressRegisters) → lbaSelected r ≡ false → r .sector ≡ 0 → addressOf small (factoryOf small) r ≡ Faults
-  pub number6 : atLba 64 ≡ Faults
-  pub number7 : securityWord (settings Open false false 5 false) ≡ 0x0001
-  pub number8 : (a : ℕ) (p : Bool) → 0 < a → securityWord (settings Locked true false a p) ≡ 0x0007
-  pub number9 : (p : Bool) → securityWord (settings Locked true true 0 p) ≡ 0x0117
-  pub number10 : (a : ℕ) (p : Bool) → 0 < a → securityWord (settings Frozen true false a p) ≡ 0x000B
-  pub number11 : initializedOf small 8 0 ≡ To (record { cylinders = 8; heads = 1; sectors = 8 })
-  pub number12 : (i : Identity) (p m : List ℕ) → identityFits i ≡ true → length m ≡ 32768 → EndsAfter256 stepOf (freshOf small i p) m
+    same : (a : List Action) (n : ℕ) → registerAfter stepOf (freshOf small i p) m a n ≡ registerAfter aloneOf (freshOf small i p) m a n
+    same a n = ap (λ (s : Session). lastValue (s .answers)) (run (a ++ (ReadRegister n ∷ [])))
 
 pub twelve-numbers : TwelveNumbers
 twelve-numbers =

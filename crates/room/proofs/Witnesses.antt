@@ -14,7 +14,7 @@ use Rattle.room.specs.Sessions.{Given, given, sessionOf}
 use Rattle.room.specs.Blocks.{acceptedOf, neverAccepted}
 use Rattle.room.specs.Claims.{Guarded, AlikeOutside}
 use Rattle.room.proofs.Running.{runningOnBytes}
-use Rattle.room.proofs.Shown.{lastValue}
+use Rattle.room.specs.Sessions.{lastValue}
 use Rattle.room.proofs.OneSector.{lockedAt, passwords, filled, blockOf, unlocking, unlockingThenStatus, guarded, alike-at}
 
 -- ---- the premise is not empty, and what is equal is not nothing

@@ -3,3 +3,4 @@ pub mod Blocks
 pub mod Started
 pub mod Guest
 pub mod Claims
+pub mod TwelveNumbers

@@ -1,9 +1,10 @@
 -- A session: a list of host actions, one after the other, on a device over its memory.
 use Prim.Native.Nat.{ℕ}
-use mathlib.Core.List.{List, [], _∷_}
+use mathlib.Core.List.{List, [], _∷_, _++_, map}
 use Rattle.face.specs.Reads.{numberOf, valueOf}
 use Rattle.face.specs.declared.Answer.{Answer}
 use Rattle.face.specs.declared.Action.{Action}
+use Rattle.face.specs.declared.Action.the-variants.{ReadRegister}
 use Rattle.device.specs.Alone.{Step}
 use Rattle.device.specs.declared.Device.{Device}
 
@@ -43,3 +44,19 @@ led s t =
 unfoldable pub sessionOf : Rules → Device → List ℕ → List Action → Session
 sessionOf r d m [] = noSession d m
 sessionOf r d m (a ∷ l) = led (r d m a) (sessionOf r (r d m a .outcome .device) (r d m a .sectors) l)
+
+-- ---- what the host gets to see of it
+
+-- the values of answers
+abbrev pub valuesOf : List Given → List ℕ
+valuesOf l = map (λ (g : Given). g .value) l
+
+-- the last of these answers' values
+abbrev pub lastValue : List Given → ℕ
+lastValue [] = 0
+lastValue (g ∷ []) = g .value
+lastValue (g ∷ h ∷ l) = lastValue (h ∷ l)
+
+-- register n as the host reads it after these actions
+abbrev pub registerAfter : Rules → Device → List ℕ → List Action → ℕ → ℕ
+registerAfter r d m l n = lastValue (sessionOf r d m (l ++ (ReadRegister n ∷ [])) .answers)
