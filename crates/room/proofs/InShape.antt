@@ -27,7 +27,7 @@ only-second : (a b : Bool) → pick a false b ≡ true → (a ≡ false) × (b �
 only-second true b e = absurd (false≢true e)
 only-second false b e = (refl, e)
 
-pub ready-step : (d : Device) (m : List ℕ) (a : Action) → Ready d m → stepOf d m a ≡ aloneOf d m a
+ready-step : (d : Device) (m : List ℕ) (a : Action) → Ready d m → stepOf d m a ≡ aloneOf d m a
 unfolding stepOf
 ready-step d m a k = simp (k .shaped, eq-eqb _ _ (k .long))
 
