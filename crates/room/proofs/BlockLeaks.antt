@@ -22,7 +22,7 @@ use Rattle.room.specs.Blocks.{mismatchesFrom, neverRestarts}
 use Rattle.room.specs.Claims.{securityIn, Guarded, ShutOut, ForgetsBlocks, ShutAfterFive}
 use Rattle.room.proofs.Running.{runningOnBytes}
 use Rattle.room.specs.Sessions.{valuesOf}
-use Rattle.room.proofs.OneSector.{lockedAt, passwords, filled, blockOf, unlocking, guarded}
+use Rattle.room.proofs.OneSector.{lockedAt, passwords, filled, blockOf, butTheLast, unlocking, guarded}
 use Rattle.room.proofs.WrongRules.{judgedBlockStays, cutBlockStays, softResetGivesAttempts}
 
 -- a locked disk whose user password is bytes 1
@@ -39,7 +39,7 @@ judgedBlockStays-run = refl
 
 -- one word of that block is still to come
 abbrev lastWordDue : Device
-lastWordDue = sessionOf judgedBlockStays disk (filled 0) (unlocking (0 ∷ replicate 16 0x0101 ++ replicate 238 0)) .device
+lastWordDue = sessionOf judgedBlockStays disk (filled 0) (unlocking (butTheLast 0x0101)) .device
 
 pub judgedBlockStays-leaks : ForgetsBlocks judgedBlockStays → ⊥
 unfolding runningOnBytes judgedBlockStays
@@ -70,22 +70,22 @@ cutBlockStays-leaks k =
 -- ---- five mismatches and a software reset
 
 -- a wrong password
-abbrev wrong : List Action
-wrong = unlocking (blockOf 0 0x0202 0x0202)
+abbrev wrongOnce : List Action
+wrongOnce = unlocking (blockOf 0 0x0202 0x0202)
 
 -- five times
 abbrev fiveWrong : List Action
-fiveWrong = wrong ++ (wrong ++ (wrong ++ (wrong ++ wrong)))
+fiveWrong = wrongOnce ++ (wrongOnce ++ (wrongOnce ++ (wrongOnce ++ wrongOnce)))
 
 -- the disk after them: the last one aborted, no attempt is left
 abbrev shut : Device
 shut = deviceOf (abortFace (withSettled (disk .face) (withSecurity (disk .face .settled) (withAttempts (securityIn disk) 0)))) (disk .secrets)
 
-five-wrong : _≡_ {A = Session} (sessionOf softResetGivesAttempts disk (filled 0) fiveWrong) record { answers = replicate 1285 (given Done 0); device = shut; sectors = filled 0 }
+pub five-wrong : _≡_ {A = Session} (sessionOf softResetGivesAttempts disk (filled 0) fiveWrong) record { answers = replicate 1285 (given Done 0); device = shut; sectors = filled 0 }
 unfolding runningOnBytes softResetGivesAttempts
 five-wrong = refl
 
-five-counted : mismatchesFrom softResetGivesAttempts 0 disk (filled 0) fiveWrong ≡ 5
+pub five-counted : mismatchesFrom softResetGivesAttempts 0 disk (filled 0) fiveWrong ≡ 5
 unfolding runningOnBytes softResetGivesAttempts
 five-counted = refl
 
@@ -93,18 +93,18 @@ five-counted = refl
 abbrev softReset : List Action
 softReset = WriteRegister 8 4 ∷ WriteRegister 8 0 ∷ []
 
--- and F2h takes a block again
+-- then F2h takes a block again
 taken-again : ShutOut softResetGivesAttempts shut (filled 0) softReset → ⊥
 unfolding runningOnBytes softResetGivesAttempts
 taken-again s = false≢true (s .aborts refl refl .closed)
 
-started : Guarded softResetGivesAttempts disk (filled 0)
+switched-on : Guarded softResetGivesAttempts disk (filled 0)
 unfolding runningOnBytes softResetGivesAttempts
-started = guarded softResetGivesAttempts false (passwords 1 7) (filled 0) refl refl
+switched-on = guarded softResetGivesAttempts false (passwords 1 7) (filled 0) refl refl
 
 pub softResetGivesAttempts-leaks : ShutAfterFive softResetGivesAttempts → ⊥
 unfolding neverRestarts
 softResetGivesAttempts-leaks k =
     taken-again
     (subst (λ (s : Session). ShutOut softResetGivesAttempts (s .device) (s .sectors) softReset) five-wrong
-    (k disk (filled 0) fiveWrong softReset (started .ready) (started .started) five-counted refl))
+    (k disk (filled 0) fiveWrong softReset (switched-on .ready) (switched-on .started) five-counted refl))

@@ -1,6 +1,6 @@
 -- A device in shape over its memory stays so through any session, which is therefore made of the disk's own actions.
 use Prim.Native.Nat.{ℕ}
-use mathlib.Core.Path.{_≡_, refl, ap, _∙_}
+use mathlib.Core.Path.{_≡_, refl, ap, subst, _∙_}
 use mathlib.Core.List.{List, [], _∷_}
 use Rattle.face.specs.declared.Action.{Action}
 use Rattle.device.specs.Alone.{Step, aloneOf}

@@ -1,10 +1,9 @@
 -- Each of the wrong rules breaks the claim that rules its leak out, on a run that the theorem gives; the runs are computed.
 use Prim.Native.Nat.{ℕ}
 use mathlib.Core.Path.{_≡_, refl, sym, ap, _∙_}
-use mathlib.Core.Bool.{Bool, true, false}
+use mathlib.Core.Bool.{true, false}
 use mathlib.Core.List.{List, [], _∷_}
 use native.Mathlib.Omega.{arith}
-use Rattle.lock.specs.declared.Secrets.{Secrets}
 use Rattle.face.specs.declared.Action.{Action}
 use Rattle.face.specs.declared.Action.the-variants.{WriteRegister, ReadWord}
 use Rattle.device.specs.declared.Device.{Device}

@@ -44,6 +44,10 @@ filled v = replicate 512 v
 abbrev pub blockOf : ℕ → ℕ → ℕ → List ℕ
 blockOf picks word last = picks ∷ replicate 15 word ++ (last ∷ replicate 239 0)
 
+-- all words but the last of a block that picks the user password: it has 16 such words
+abbrev pub butTheLast : ℕ → List ℕ
+butTheLast word = 0 ∷ replicate 16 word ++ replicate 238 0
+
 -- F2h and a block's words
 abbrev pub unlocking : List ℕ → List Action
 unlocking ws = WriteRegister 7 0xF2 ∷ map WriteWord ws
@@ -57,7 +61,7 @@ pub locked-ready : (maximum : Bool) (x : Secrets) (b m : List ℕ) → length m 
 unfolding running
 locked-ready maximum x b m l = record { shaped = refl; long = l }
 
--- by rules whose power-on leaves such a disk as it is
+-- one of demand 3's devices, by rules whose power-on leaves it as it is
 pub guarded : (r : Rules) (maximum : Bool) (x : Secrets) (m : List ℕ) → length m ≡ 512 → r (lockedAt maximum x) m PowerOn .outcome .device ≡ lockedAt maximum x
     → Guarded r (lockedAt maximum x) m
 guarded r maximum x m l s =

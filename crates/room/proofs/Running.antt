@@ -1,4 +1,4 @@
--- Names that open every definition by which a run computes, so that `refl` works out a session on a given device.
+-- Two names that open all definitions by which the runs of this crate compute, so that `refl` works a session out.
 use Rattle.base.specs.Choice.{within}
 use Rattle.block.specs.Words.{wordAt, wordPut}
 use Rattle.block.specs.Sectors.{zeroBlock, sectorAt}
@@ -37,12 +37,12 @@ use Rattle.device.specs.Host.{aloneFits, shapedOf, stepOf}
 use Rattle.room.specs.Sessions.{Rules, sessionOf}
 use Rattle.room.specs.Blocks.{completedOf, unlockAccepts, eraseAccepts, acceptedOf, neverAccepted, mismatchOf, countedOf, mismatchesFrom, neverRestarts}
 
--- all but what looks into blocks and sectors, which may then be any
+-- all but those that look into blocks and sectors, which may then be any
 unfoldable pub running : Rules
 unfolding within maxCylinders maxHeads maxSectors geometryFits capacityOf cylindersFor initializedOf translationAllowed productOf lbaSelected lbaOf cylinderOf headOf lbaAddress chsNumber chsAddress addressOf lbaSuccessor chsSuccessor successorOf startingLock exhaustedOf cannotErase securityFits masterPicked pickedOf matchesOf mismatchedOf masterAtMaximum unlockLocked unlockOf judgeOf codedOf decodeOf mayRunOf printable identityFits settledFits securityWord textWord numberWord identifyWord wordsOf identifyOf statusOf readRegister busyOf storeRegister putRegister droppedOf srstOf nienOf controlOf afterOf notFoundOf readBufferWord readAt readSectorsOf readNextOf readRunOf readWordOf identifyDeviceOf readBufferOf takePasswordOf begunOf abortAtOnce stationsOf commandOf devSet ignoredOf passwordLast passwordLastSectors passwordWord passwordWordSectors writeRegisterOf writeWordOf actOf runFits passwordFits heldFits diskFits aloneOf aloneFits shapedOf stepOf sessionOf completedOf unlockAccepts eraseAccepts acceptedOf neverAccepted mismatchOf countedOf mismatchesFrom neverRestarts
 running = stepOf
 
--- these too
+-- those too
 unfoldable pub runningOnBytes : Rules
 unfolding running wordAt wordPut zeroBlock sectorAt passwordOf same
 runningOnBytes = running

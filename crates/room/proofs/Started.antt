@@ -1,13 +1,12 @@
 -- A start makes the face anew from geometry, identity, level and enabled mark, so just powered-on devices that agree on these have the same face.
 use mathlib.Core.Path.{_≡_, sym, ap, _∙_}
 use mathlib.Core.Bool.{Bool, true}
-use mathlib.Core.List.{List, [], _∷_}
+use mathlib.Core.List.{List}
 use Prim.Native.Nat.{ℕ}
 use lib.ListN.{length, length-replicate}
 use Rattle.block.specs.Sectors.{zeroBlock}
 use Rattle.lock.specs.Lock.{isLocked, startingLock}
 use Rattle.face.specs.declared.Face.{Face}
-use Rattle.face.specs.declared.Action.{Action}
 use Rattle.face.specs.declared.Action.the-variants.{HardwareReset, PowerOn}
 use Rattle.fastpath.specs.Dev.{ignoredOf}
 use Rattle.disk.specs.Actions.{actOf}
@@ -16,7 +15,6 @@ use Rattle.device.specs.Host.{Ready, stepOf}
 use Rattle.device.specs.declared.Device.{Device}
 use Rattle.laws.proofs.Steps.{ready-step}
 use Rattle.laws.proofs.Lengths.{Whole}
-use Rattle.room.specs.Sessions.{sessionOf}
 use Rattle.room.specs.Started.{startedFace}
 use Rattle.room.specs.Claims.{securityIn, JustPoweredOn, Guarded, LeavesNothingElse, WhateverCameBefore}
 use Rattle.room.proofs.InShape.{session-whole}

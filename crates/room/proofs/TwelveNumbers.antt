@@ -1,33 +1,23 @@
 -- Document 01's twelve numbers as a single list; number 12 by running the disk's own actions over a memory that is not looked into.
-use Prim.Native.Nat.{ℕ, _<_}
+use Prim.Native.Nat.{ℕ}
 use mathlib.Core.Path.{_≡_, refl, ap, _∙_}
-use mathlib.Core.Bool.{Bool, true, false}
+use mathlib.Core.Bool.{true}
 use mathlib.Core.List.{List, [], _∷_, _++_}
-use lib.ListN.{length, drop, replicate}
-use Rattle.geometry.specs.Geometry.{geometryFits, capacityOf}
-use Rattle.geometry.specs.Translation.{factoryOf, initializedOf}
-use Rattle.geometry.specs.declared.Initialized.the-variants.{To}
-use Rattle.address.specs.Registers.{lbaSelected}
-use Rattle.address.specs.Address.{names, addressOf}
-use Rattle.address.specs.declared.AddressRegisters.{AddressRegisters}
-use Rattle.address.specs.declared.Address.the-variants.{Faults}
-use Rattle.address.proofs.Numbers.{small, atChs, atLba, numbers}
-use Rattle.block.specs.Sectors.{sectorAt}
-use Rattle.lock.specs.declared.Lock.the-variants.{Open, Locked, Frozen}
+use lib.ListN.{length, drop}
+use Rattle.geometry.specs.Geometry.{geometryFits}
+use Rattle.address.proofs.Numbers.{small, numbers}
 use Rattle.settled.specs.Identity.{identityFits}
 use Rattle.settled.specs.declared.Identity.{Identity}
-use Rattle.identify.specs.SecurityWord.{securityWord}
-use Rattle.identify.proofs.SecurityNumbers.{settings, security-numbers}
+use Rattle.identify.proofs.SecurityNumbers.{security-numbers}
 use Rattle.face.specs.declared.Action.{Action}
-use Rattle.face.specs.declared.Action.the-variants.{ReadRegister, WriteRegister, ReadWord}
+use Rattle.face.specs.declared.Action.the-variants.{ReadRegister}
 use Rattle.device.specs.Alone.{aloneOf}
-use Rattle.device.specs.Host.{Ready, stepOf}
+use Rattle.device.specs.Host.{stepOf}
 use Rattle.device.specs.Setup.{freshOf}
-use Rattle.device.specs.declared.Device.{Device}
 use Rattle.laws.proofs.Reached.{fresh-shaped}
 use Rattle.laws.proofs.Lengths.{Whole, zero-length}
 use Rattle.laws.proofs.ReadBack.{wordsFrom}
-use Rattle.room.specs.Sessions.{Rules, Session, sessionOf}
+use Rattle.room.specs.Sessions.{Session, sessionOf}
 use Rattle.room.specs.TwelveNumbers.{readingOn, EndsAfter256, TwelveNumbers}
 use Rattle.room.proofs.Running.{running}
 use Rattle.room.proofs.InShape.{alone-session}

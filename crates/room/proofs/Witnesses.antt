@@ -15,7 +15,7 @@ use Rattle.room.specs.Blocks.{acceptedOf, neverAccepted}
 use Rattle.room.specs.Claims.{Guarded, AlikeOutside}
 use Rattle.room.proofs.Running.{runningOnBytes}
 use Rattle.room.specs.Sessions.{lastValue}
-use Rattle.room.proofs.OneSector.{lockedAt, passwords, filled, blockOf, unlocking, unlockingThenStatus, guarded, alike-at}
+use Rattle.room.proofs.OneSector.{lockedAt, passwords, filled, blockOf, butTheLast, unlocking, unlockingThenStatus, guarded, alike-at}
 
 -- ---- the premise is not empty, and what is equal is not nothing
 
@@ -57,7 +57,7 @@ both-answer =
 
 -- ---- the premise is needed
 
--- a device and the block that carries its user password, which it accepts at the last word; and another, of another user password only, which does not
+-- of two devices that differ in the user password alone, one accepts the last word of a block and opens, the other does not
 pub record OneAccepts (d e : Device) (m : List ℕ) (ws : List ℕ) (w : ℕ) : Type 0 where
   pub first : Guarded stepOf d m
   pub second : Guarded stepOf e m
@@ -68,11 +68,7 @@ pub record OneAccepts (d e : Device) (m : List ℕ) (ws : List ℕ) (w : ℕ) : 
   pub opens : lastValue (sessionOf stepOf d m (unlockingThenStatus (ws ++ (w ∷ []))) .answers) ≡ 0x50
   pub aborts : lastValue (sessionOf stepOf e m (unlockingThenStatus (ws ++ (w ∷ []))) .answers) ≡ 0x51
 
--- all words but the last of a block with the password of bytes 1
-abbrev butTheLast : List ℕ
-butTheLast = 0 ∷ replicate 16 0x0101 ++ replicate 238 0
-
-pub one-accepts : OneAccepts (lockedAt false (passwords 1 7)) (lockedAt false (passwords 2 7)) (filled 0) butTheLast 0
+pub one-accepts : OneAccepts (lockedAt false (passwords 1 7)) (lockedAt false (passwords 2 7)) (filled 0) (butTheLast 0x0101) 0
 unfolding runningOnBytes
 one-accepts =
     record {

@@ -61,26 +61,26 @@ writes test Line = false
 abbrev commands : (ℕ → Bool) → Action → Bool
 commands test a = writes (λ n v. pick (eqb n 7) (test v) false) a
 
--- the last word of an UNLOCK block, sent to a locked device, that passes the test
+-- a whole UNLOCK block that passes the test, while locked
 abbrev unlocksBy : (Security → Secrets → List ℕ → Bool) → Security → Secrets → Purpose → List ℕ → Bool
 unlocksBy test s x Set b = false
 unlocksBy test s x Unlock b = pick (isLocked (s .lock)) (test s x b) false
 unlocksBy test s x Erase b = false
 unlocksBy test s x Disable b = false
 
--- UNLOCK opens too where the test holds
+-- UNLOCK opens where the test holds, too
 abbrev opensBy : (Security → Secrets → List ℕ → Bool) → Rules
 opensBy test =
     slip (λ d a. completedOf (unlocksBy test (securityIn d) (d .secrets)) (d .face) a)
     (λ d m f. finishFace (passwordEnded (d .face) (openedOf (securityIn d))))
 
--- ---- the seven
+-- ---- the seven, each wrong on purpose
 
 -- "READ BUFFER while locked showing payment's last sector": a start keeps the buffer
 unfoldable pub startKeepsBuffer : Rules
 startKeepsBuffer = slip (λ d a. restarts a) (λ d m f. withBuffer f (d .face .buffer))
 
--- "the same after UNLOCK showing the password": a judged block stays in the buffer
+-- "the same after UNLOCK showing the password": a judged block stays in the buffer, but for its last word
 unfoldable pub judgedBlockStays : Rules
 judgedBlockStays = slip (λ d a. completedOf (λ p b. true) (d .face) a) (λ d m f. withBuffer f (d .face .buffer))
 
