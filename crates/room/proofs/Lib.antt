@@ -17,3 +17,4 @@ pub mod Witnesses
 pub mod WrongRules
 pub mod Leaks
 pub mod BlockLeaks
+pub mod Silence

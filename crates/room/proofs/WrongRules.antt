@@ -16,12 +16,13 @@ use Rattle.judging.specs.Judging.{openedOf, masterAtMaximum}
 use Rattle.settled.specs.Settled.{withSecurity}
 use Rattle.face.specs.Face.{idleFace, withSettled, withBuffer}
 use Rattle.face.specs.declared.Face.{Face}
+use Rattle.face.specs.declared.Answer.the-variants.{Done}
 use Rattle.face.specs.declared.Action.{Action}
 use Rattle.face.specs.declared.Action.the-variants.{ReadRegister, WriteRegister, ReadWord, WriteWord, HardwareReset, PowerOn, Line}
 use Rattle.resets.specs.Control.{srstOf}
 use Rattle.transfers.specs.Sectors.{finishFace}
 use Rattle.password.specs.Passwords.{passwordEnded}
-use Rattle.device.specs.Alone.{Step, deviceOf}
+use Rattle.device.specs.Alone.{Step, deviceOf, shown}
 use Rattle.device.specs.Host.{stepOf}
 use Rattle.device.specs.declared.Device.{Device}
 use Rattle.room.specs.Sessions.{Rules}
@@ -107,3 +108,9 @@ takesMasterAtMaximum = opensBy (λ s x b. matchesOf x b)
 unfoldable pub identifiesASector : Rules
 identifiesASector =
     slip (λ d a. commands (λ v. eqb v 0xEC) a) (λ d m f. withBuffer f (set (f .buffer) 0 (getD m 0 0)))
+
+-- ---- and one that leaks nothing
+
+-- "a device that aborts everything .. zero words (2, though 3 alone would pass)": this one does nothing at all, and says 0
+unfoldable pub saysNothing : Rules
+saysNothing d m a = shown d m Done 0
