@@ -199,9 +199,24 @@ def laws_that_are_named_exist(_):
     return [f'{name} is no law' for name in re.findall(r'`([^`]+)`', table) if name not in there]
 
 
+def room_claims_are_theorems(_):
+    """docs/ROOM.md pairs each claim with a theorem of just that type, each leak with its refutation, and names nothing that is not there."""
+    text, proofs = read('docs/ROOM.md'), '\n'.join(read(path) for path in glob.glob('crates/room/proofs/*.antt'))
+    claims = re.findall(r'^\| .* \| `(\w+)` \| `([\w-]+)` \|$', text, re.M)
+    leaks = re.findall(r'^\| .* \| `(\w+)` \| `(\w+)` \| `([\w-]+)`', text, re.M)
+    types = [f'pub {proof} : {claim}' for claim, proof in claims] + [f'pub {proof} : {claim} {wrong} → ⊥' for wrong, claim, proof in leaks]
+    complaints = [f'{line} is no theorem' for line in types if not re.search(f'^{re.escape(line)}( stepOf)?$', proofs, re.M)]
+    stated = set(re.findall(r'^abbrev pub (\w+) : Rules → Type 0$', read('crates/room/specs/Claims.antt'), re.M)) | {'TwelveNumbers'}
+    wrong = set(re.findall(r'^unfoldable pub (\w+) : Rules$', read('crates/room/proofs/WrongRules.antt'), re.M))
+    named = set(re.findall(r'`([\w:-]+)`', text))
+    complaints += [f'{name} has no row' for name in stated - {claim for claim, _ in claims}] + [f'{name} is not named' for name in wrong - named]
+    there = {name for path in glob.glob('crates/*/*/*.antt') for name in tree.public_names(path)} | {name for name, *_ in all_functions()} | set(tree.crates())
+    return complaints + [f'{name} is not there' for name in named - there - {'-run'}]
+
+
 CHECKS = [crates_are_listed, layout_is_kept, functions_are_short, crates_are_small, no_folder_of_one_machine_is_named, proofs_have_recipes,
           imports_are_used, edits_find_their_text, promises_name_every_call, slips_have_edits, rules_name_every_definition,
-          names_mean_one_thing, laws_that_are_named_exist]
+          names_mean_one_thing, laws_that_are_named_exist, room_claims_are_theorems]
 CHECKS_OF_A_RUN = [crates_check_quickly, edits_reach_a_proof]
 
 

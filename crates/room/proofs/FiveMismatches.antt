@@ -1,7 +1,7 @@
 -- Five mismatches: attempts left and mismatches are five together after any actions; with none left the device is locked, shut out until a start; with some left a right block opens.
 use mathlib.Core.Path.{_≡_, refl, sym, ap, _∙_}
 use mathlib.Core.Bool.{Bool, true, false, not}
-use mathlib.Core.List.{List, [], _∷_}
+use mathlib.Core.List.{List, [], _∷_, map}
 use Prim.Native.Nat.{ℕ, _+_, _<_}
 use native.Mathlib.Omega.{arith}
 use Rattle.base.specs.Choice.{pick}
@@ -15,13 +15,14 @@ use Rattle.judging.specs.Passwords.{matchesOf}
 use Rattle.judging.specs.Judging.{masterAtMaximum}
 use Rattle.face.specs.declared.Face.{Face}
 use Rattle.face.specs.declared.Action.{Action}
+use Rattle.face.specs.declared.Action.the-variants.{WriteWord}
 use Rattle.device.specs.Alone.{Step}
 use Rattle.device.specs.Host.{Ready, stepOf}
 use Rattle.device.specs.declared.Device.{Device}
 use Rattle.laws.proofs.Lengths.{Whole, step-whole}
 use Rattle.room.specs.Sessions.{sessionOf}
-use Rattle.room.specs.Blocks.{unlockAccepts, blockAccepted, acceptedOf, unlockMismatch, mismatchOf, restarts, countedOf, mismatchesFrom}
-use Rattle.room.specs.Claims.{securityIn, JustPoweredOn, AttemptsCounted, ShutAfterFive, OpensBeforeFive}
+use Rattle.room.specs.Blocks.{unlockAccepts, blockAccepted, acceptedOf, unlockMismatch, mismatchOf, restarts, countedOf, mismatchesFrom, neverRestarts}
+use Rattle.room.specs.Claims.{securityIn, JustPoweredOn, AttemptsCounted, ShutAfterFive, unlockWith, OpensBeforeFive, RightOneShutOut}
 use Rattle.room.proofs.Completed.{completed, completed-other}
 use Rattle.room.proofs.Kept.{guest-locked}
 use Rattle.room.proofs.GuestStep.{guestLeaves, step-guest}
@@ -138,3 +139,12 @@ opens-before-five d m l ws k p e h r =
   where
     left : securityIn (sessionOf stepOf d m l .device) .attempts + mismatchesFrom stepOf 0 d m l ≡ 5 → 0 < securityIn (sessionOf stepOf d m l .device) .attempts
     left q = omega (arith, e)
+
+words-never : (ws : List ℕ) → neverRestarts (map WriteWord ws) ≡ true
+unfolding neverRestarts
+words-never [] = refl
+words-never (w ∷ ws) = words-never ws
+
+pub right-one-shut-out : RightOneShutOut stepOf
+unfolding neverRestarts
+right-one-shut-out d m l ws k p e = shut-after-five d m l (unlockWith ws) k p e (words-never ws) .locked

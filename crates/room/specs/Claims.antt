@@ -146,6 +146,14 @@ OpensBeforeFive r =
     → RightWords (sessionOf r d m l .device) ws
     → securityIn (sessionOf r (sessionOf r d m l .device) (sessionOf r d m l .sectors) (unlockWith ws) .device) .lock ≡ Open
 
+-- after five, the same actions leave it locked: "even the right password is aborted"
+abbrev pub RightOneShutOut : Rules → Type 0
+RightOneShutOut r =
+    (d : Device) (m : List ℕ) (l : List Action) (ws : List ℕ) → Ready d m → JustPoweredOn r d
+    → mismatchesFrom r 0 d m l ≡ 5
+    → isLocked (securityIn (sessionOf r (sessionOf r d m l .device) (sessionOf r d m l .sectors) (unlockWith ws) .device) .lock)
+    ≡ true
+
 -- ---- what is left
 
 -- by these alone
