@@ -30,16 +30,15 @@ use Rattle.transfers.specs.Sectors.{Memory, located}
 use Rattle.transfers.specs.Words.{wordIn}
 use Rattle.transfers.proofs.Reached.{memory-room}
 use Rattle.writing.specs.Words.{storeAs, writeLastSectors, writeRunSectors}
-use Rattle.shape.proofs.Clauses.{shape-clauses}
 use Rattle.password.specs.Passwords.{sectorsAs, judgementOf, passwordLastSectors, passwordWordSectors}
 use Rattle.disk.specs.Actions.{writeWordAs, writeWordOf, actOf}
 use Rattle.device.specs.Alone.{Step, aloneOf}
 use Rattle.device.specs.Host.{Ready, stepOf}
 use Rattle.device.specs.declared.Device.{Device}
-use Rattle.device.proofs.Memories.{shaped-disk, shaped-memory}
+use Rattle.device.proofs.Memories.{shaped-memory}
 use Rattle.laws.proofs.Shape.{address-each}
 use Rattle.laws.proofs.Lasting.{Lasts, act-lasts}
-use Rattle.laws.proofs.Steps.{ready-step, ready-after}
+use Rattle.laws.proofs.Steps.{ready-fits, ready-step, ready-after}
 
 -- in shape over its memory, the buffer 512 bytes long
 pub record Whole (d : Device) (m : List ℕ) : Type 0 where
@@ -128,7 +127,7 @@ step-whole d m a k = rw (ready-step d m a (k .ready)) record { ready = ready-aft
   where
     sized : Sized m (d .face)
     sized = (
-      settled-clauses (d .face .settled) (shape-clauses (d .face) (shaped-disk d (k .ready .shaped) .0) .sound) .geometry,
+      settled-clauses (d .face .settled) (ready-fits d m (k .ready) .sound) .geometry,
       shaped-memory d m (k .ready .shaped) (k .ready .long),
       k .block,
     )

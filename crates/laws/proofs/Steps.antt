@@ -10,11 +10,16 @@ use Rattle.geometry.specs.Geometry.{capacityOf}
 use Rattle.geometry.specs.declared.Geometry.{Geometry}
 use Rattle.face.specs.declared.Action.{Action}
 use Rattle.fastpath.specs.Dev.{devSet, unansweredOf, ignoredOf}
+use Rattle.shape.proofs.Clauses.{Fits, shape-clauses}
 use Rattle.device.specs.Alone.{Step, actedOf, aloneOf}
 use Rattle.device.specs.Host.{Ready, shapedOf, stepOf, memoryLength}
 use Rattle.device.specs.declared.Device.{Device}
+use Rattle.device.proofs.Memories.{shaped-disk}
 use Rattle.laws.proofs.Reached.{alone-shaped}
 use Rattle.laws.proofs.Built.{alone-built}
+
+pub ready-fits : (d : Device) (m : List ℕ) → Ready d m → Fits (d .face)
+ready-fits d m k = shape-clauses (d .face) (shaped-disk d (k .shaped) .0)
 
 pub ready-step : (d : Device) (m : List ℕ) (a : Action) → Ready d m → stepOf d m a ≡ aloneOf d m a
 unfolding stepOf

@@ -28,17 +28,15 @@ use Rattle.transfers.specs.Words.{wordIn}
 use Rattle.reading.specs.Words.{readWordOf}
 use Rattle.fastpath.specs.Dev.{ignoredOf}
 use Rattle.shape.specs.Shape.{passwordFits, transferFits}
-use Rattle.shape.proofs.Clauses.{shape-clauses}
 use Rattle.password.specs.Passwords.{passwordEnded, judgementOf, passwordLast, passwordWord}
 use Rattle.disk.specs.Actions.{writeWordAs, writeWordOf, actOf}
 use Rattle.device.specs.Alone.{Step, aloneOf}
 use Rattle.device.specs.Host.{Ready, stepOf}
 use Rattle.device.specs.declared.Device.{Device}
-use Rattle.device.proofs.Memories.{shaped-disk}
 use Rattle.laws.proofs.Shape.{guard}
 use Rattle.laws.proofs.Settling.{Closed, write-register-settles, read-word-settles, write-word-settles}
 use Rattle.laws.proofs.Opens.{ended-hot}
-use Rattle.laws.proofs.Steps.{ready-step}
+use Rattle.laws.proofs.Steps.{ready-fits, ready-step}
 use Rattle.room.specs.Blocks.{completedAs, completedOf, unlockMismatch, mismatchOf, countedOf}
 use Rattle.room.specs.Claims.{securityIn}
 
@@ -146,4 +144,4 @@ alone-five d m a n k q =
 -- attempts left and mismatches stay five together
 pub step-five : (d : Device) (m : List ℕ) (a : Action) (n : ℕ) → Ready d m → Five (securityIn d) n → Five (securityIn (stepOf d m a .outcome .device)) (countedOf n d a)
 step-five d m a n k q =
-    rw (ready-step d m a k) (alone-five d m a n (shape-clauses (d .face) (shaped-disk d (k .shaped) .0) .fits) q)
+    rw (ready-step d m a k) (alone-five d m a n (ready-fits d m k .fits) q)

@@ -25,7 +25,6 @@ use Rattle.transfers.specs.Words.{told, wordIn}
 use Rattle.transfers.specs.declared.Told.{Told}
 use Rattle.commands.specs.Gate.{begunOf, stationsOf, commandOf}
 use Rattle.shape.specs.Shape.{diskFits}
-use Rattle.shape.proofs.Clauses.{shape-clauses}
 use Rattle.password.specs.Passwords.{passwordEnded}
 use Rattle.effects.specs.Effects.{effect}
 use Rattle.disk.specs.Actions.{toldActed, writeRegisterOf, actOf}
@@ -36,7 +35,7 @@ use Rattle.device.proofs.Memories.{shaped-disk}
 use Rattle.laws.proofs.Shape.{open-free}
 use Rattle.laws.proofs.Reached.{open-clear}
 use Rattle.laws.proofs.Opens.{ended-hot, blockWith, last-word}
-use Rattle.laws.proofs.Steps.{ready-step, clear-acts}
+use Rattle.laws.proofs.Steps.{ready-fits, ready-step, clear-acts}
 use Rattle.room.specs.Claims.{holding, dropsBlock, ForgetsBlocks}
 
 -- ---- judged
@@ -99,12 +98,11 @@ holding-ready d m c k = record { shaped = k .shaped; long = k .long }
 -- no password block leaves a word of itself
 pub forgets-blocks : ForgetsBlocks stepOf
 forgets-blocks d m b k e =
-    let p = shaped-disk d (k .shaped) in
     let o : isIdle (d .face .hot .transfer) ≡ false = ap isIdle e in
     record {
       judged = λ w h. judged-zero d m b w k e h;
       dropped =
           λ a c h. ready-step d m a k
-          ∙ alone-forgets d m c b a e (open-free (d .face) (shape-clauses (d .face) (p .0)) o) (open-clear (d .face .hot) (p .1) o) h
+          ∙ alone-forgets d m c b a e (open-free (d .face) (ready-fits d m k) o) (open-clear (d .face .hot) (shaped-disk d (k .shaped) .1) o) h
           ∙ sym (ready-step (holding d c) m a (holding-ready d m c k));
     }

@@ -34,25 +34,23 @@ use Rattle.transfers.specs.declared.Told.{Told}
 use Rattle.reading.specs.Words.{readWordAs, readWordOf}
 use Rattle.commands.specs.Gate.{begunOf, abortAtOnce, runOf, stationsOf, commandOf}
 use Rattle.shape.specs.Shape.{runFits, passwordFits, transferFits}
-use Rattle.shape.proofs.Clauses.{shape-clauses}
 use Rattle.effects.specs.Effects.{acted, effect}
 use Rattle.password.specs.Passwords.{passwordLast, passwordLastSectors, passwordWord, passwordWordSectors, judgedActed, sectorsAs}
 use Rattle.disk.specs.Actions.{toldActed, writeRegisterOf, writeWordAs, writeWordOf, actOf}
 use Rattle.device.specs.Alone.{shown, stepAs, actedOf, Step, aloneOf}
 use Rattle.device.specs.Host.{Ready, stepOf}
 use Rattle.device.specs.declared.Device.{Device}
-use Rattle.device.proofs.Memories.{shaped-disk}
 use Rattle.laws.proofs.Shape.{not-locked-open}
 use Rattle.laws.proofs.Settling.{drop-settles}
-use Rattle.laws.proofs.Steps.{ready-step}
+use Rattle.laws.proofs.Steps.{ready-fits, ready-step}
 use Rattle.room.specs.Blocks.{completedAs, completedOf, unlockAccepts, eraseAccepts, blockAccepted, acceptedOf}
 use Rattle.room.specs.Guest.{refusedSecurity, refusedLast, guestPassword, guestWord, guestAct, guestStep}
 use Rattle.room.specs.Claims.{securityIn}
-use Rattle.room.proofs.Kept.{locked-closed}
+use Rattle.room.proofs.Kept.{LockedIn, locked-closed}
 
 -- ---- commands: locked, none looks at the sectors
 
-run-guest : (f : Face) (m : List ℕ) (k : Command) → isLocked (f .settled .security .lock) ≡ true → runsIn k (f .settled .security .lock) ≡ true → runOf f m k ≡ runOf f [] k
+run-guest : (f : Face) (m : List ℕ) (k : Command) → LockedIn (f .settled) → runsIn k (f .settled .security .lock) ≡ true → runOf f m k ≡ runOf f [] k
 run-guest f m Unknown h e = refl
 run-guest f m Recalibrate h e = refl
 run-guest f m ReadSectors h e = absurd (false≢true (sym (not-locked-open (f .settled .security .lock) e) ∙ h))
@@ -71,7 +69,7 @@ run-guest f m SecurityEraseUnit h e = refl
 run-guest f m SecurityFreezeLock h e = refl
 run-guest f m SecurityDisablePassword h e = refl
 
-stations-guest : (f : Face) (m : List ℕ) (code : ℕ) → isLocked (f .settled .security .lock) ≡ true → stationsOf f m code ≡ stationsOf f [] code
+stations-guest : (f : Face) (m : List ℕ) (code : ℕ) → LockedIn (f .settled) → stationsOf f m code ≡ stationsOf f [] code
 unfolding stationsOf mayRunOf
 stations-guest f m code h =
     either-way (runsIn (decodeOf code) (f .settled .security .lock))
@@ -80,7 +78,7 @@ stations-guest f m code h =
 
 -- ---- data words
 
-read-guest : (f : Face) (m : List ℕ) (t : Transfer) → isLocked (f .settled .security .lock) ≡ true → transferFits (f .settled) t ≡ true → readWordAs f m t ≡ readWordAs f [] t
+read-guest : (f : Face) (m : List ℕ) (t : Transfer) → LockedIn (f .settled) → transferFits (f .settled) t ≡ true → readWordAs f m t ≡ readWordAs f [] t
 unfolding runFits
 read-guest f m Idle h e = refl
 read-guest f m (Reading r) h e = absurd (false≢true (simp h at e))
@@ -111,17 +109,17 @@ judge-guest s x Erase b h k e = simp (refused)
 judge-guest s x Disable b h k e = absurd (not-open (s .lock) h k)
 
 -- what such a block leaves
-last-guest : (f : Face) (x : Secrets) (p : Purpose) → isLocked (f .settled .security .lock) ≡ true → passwordFits (f .settled .security) p ≡ true
+last-guest : (f : Face) (x : Secrets) (p : Purpose) → LockedIn (f .settled) → passwordFits (f .settled .security) p ≡ true
     → blockAccepted (f .settled .security) x p (f .buffer) ≡ false → passwordLast f x p ≡ acted (refusedLast f p) x Done 0
 unfolding passwordLast refusedLast
 last-guest f x p h k e = ap (judgedActed f) (judge-guest (f .settled .security) x p (f .buffer) h k e)
 
-last-keeps : (f : Face) (x : Secrets) (m : List ℕ) (p : Purpose) → isLocked (f .settled .security .lock) ≡ true → passwordFits (f .settled .security) p ≡ true
+last-keeps : (f : Face) (x : Secrets) (m : List ℕ) (p : Purpose) → LockedIn (f .settled) → passwordFits (f .settled .security) p ≡ true
     → blockAccepted (f .settled .security) x p (f .buffer) ≡ false → passwordLastSectors f x m p ≡ m
 unfolding passwordLastSectors
 last-keeps f x m p h k e = ap (λ (j : Judged). sectorsAs m (j .verdict)) (judge-guest (f .settled .security) x p (f .buffer) h k e)
 
-password-guest : (f : Face) (x : Secrets) (m : List ℕ) (b : PasswordBlock) (w : ℕ) → isLocked (f .settled .security .lock) ≡ true → passwordFits (f .settled .security) (b .purpose) ≡ true
+password-guest : (f : Face) (x : Secrets) (m : List ℕ) (b : PasswordBlock) (w : ℕ) → LockedIn (f .settled) → passwordFits (f .settled .security) (b .purpose) ≡ true
     → completedAs (blockAccepted (f .settled .security) x) f w (TakingPassword b) ≡ false
     → effect (passwordWord f x b w) (passwordWordSectors f x m b w) ≡ effect (toldActed x (told (guestPassword f b w) Done 0)) m
 unfolding passwordWord passwordWordSectors guestPassword
@@ -131,7 +129,7 @@ password-guest f x m b w h k e =
     (λ q. let g = wordIn f (b .word) w in let a : blockAccepted (f .settled .security) x (b .purpose) (g .buffer) ≡ false = sym (ap (λ (t : Bool). pick t false (blockAccepted (f .settled .security) x (b .purpose) (g .buffer))) q) ∙ e in
     simp (q, last-guest g x (b .purpose) h k a, last-keeps g x m (b .purpose) h k a))
 
-write-guest : (f : Face) (x : Secrets) (m : List ℕ) (w : ℕ) (t : Transfer) → isLocked (f .settled .security .lock) ≡ true → transferFits (f .settled) t ≡ true
+write-guest : (f : Face) (x : Secrets) (m : List ℕ) (w : ℕ) (t : Transfer) → LockedIn (f .settled) → transferFits (f .settled) t ≡ true
     → completedAs (blockAccepted (f .settled .security) x) f w t ≡ false → writeWordAs f x m w t ≡ effect (toldActed x (guestWord f w t)) m
 unfolding runFits
 write-guest f x m w Idle h k e = refl
@@ -143,15 +141,15 @@ write-guest f x m w (TakingPassword b) h k e = password-guest f x m b w h k e
 
 -- ---- any action
 
-command-guest : (f : Face) (m : List ℕ) (code : ℕ) → isLocked (f .settled .security .lock) ≡ true → commandOf f m code ≡ commandOf f [] code
+command-guest : (f : Face) (m : List ℕ) (code : ℕ) → LockedIn (f .settled) → commandOf f m code ≡ commandOf f [] code
 unfolding commandOf begunOf
 command-guest f m code h = ap (λ (g : Face). pick (f .hot .signals .held) f g) (stations-guest (begunOf f) m code (drop-settles locked-closed f h))
 
-register-guest : (f : Face) (m : List ℕ) (n v : ℕ) → isLocked (f .settled .security .lock) ≡ true → writeRegisterOf f m n v ≡ writeRegisterOf f [] n v
+register-guest : (f : Face) (m : List ℕ) (n v : ℕ) → LockedIn (f .settled) → writeRegisterOf f m n v ≡ writeRegisterOf f [] n v
 unfolding writeRegisterOf
 register-guest f m n v h = rw (command-guest f m v h)
 
-act-guest : (f : Face) (x : Secrets) (m : List ℕ) (a : Action) → isLocked (f .settled .security .lock) ≡ true → transferFits (f .settled) (f .hot .transfer) ≡ true
+act-guest : (f : Face) (x : Secrets) (m : List ℕ) (a : Action) → LockedIn (f .settled) → transferFits (f .settled) (f .hot .transfer) ≡ true
     → completedOf (blockAccepted (f .settled .security) x) f a ≡ false → actOf f x m a ≡ effect (toldActed x (guestAct f a)) m
 unfolding actOf guestAct completedOf readWordOf writeWordOf
 act-guest f x m (ReadRegister n) h k e = refl
@@ -177,5 +175,4 @@ alone-guest d m a e = go (ignoredOf (d .face .hot) a)
 pub step-guest : (d : Device) (m : List ℕ) (a : Action) → Ready d m → isLocked (securityIn d .lock) ≡ true → acceptedOf d a ≡ false → stepOf d m a ≡ guestLeaves d m a
 unfolding acceptedOf
 step-guest d m a k h e =
-    let fits = shape-clauses (d .face) (shaped-disk d (k .shaped) .0) .fits in
-    ready-step d m a k ∙ alone-guest d m a (act-guest (d .face) (d .secrets) m a h fits e)
+    ready-step d m a k ∙ alone-guest d m a (act-guest (d .face) (d .secrets) m a h (ready-fits d m k .fits) e)

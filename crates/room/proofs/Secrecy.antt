@@ -8,13 +8,11 @@ use Rattle.lock.proofs.Sound.{fits-sound}
 use Rattle.settled.proofs.Clauses.{settled-clauses}
 use Rattle.face.specs.declared.Face.{Face}
 use Rattle.face.specs.declared.Action.{Action}
-use Rattle.shape.proofs.Clauses.{shape-clauses}
 use Rattle.device.specs.Alone.{deviceOf, Step}
 use Rattle.device.specs.Host.{Ready, stepOf}
 use Rattle.device.specs.declared.Device.{Device}
-use Rattle.device.proofs.Memories.{shaped-disk}
 use Rattle.laws.proofs.Shape.{guard}
-use Rattle.laws.proofs.Steps.{ready-step, ready-after}
+use Rattle.laws.proofs.Steps.{ready-fits, ready-step, ready-after}
 use Rattle.room.specs.Sessions.{Session, led, sessionOf}
 use Rattle.room.specs.Blocks.{acceptedOf, neverAccepted}
 use Rattle.room.specs.Started.{startedFace}
@@ -29,7 +27,7 @@ use Rattle.room.proofs.Started.{guarded-face, guarded-locked}
 -- locked and in shape, security is enabled
 pub locked-enabled : (d : Device) (m : List ℕ) → Ready d m → isLocked (securityIn d .lock) ≡ true → securityIn d .enabled ≡ true
 locked-enabled d m k h =
-    fits-sound (securityIn d) (settled-clauses (d .face .settled) (shape-clauses (d .face) (shaped-disk d (k .shaped) .0) .sound) .security) .sure h
+    fits-sound (securityIn d) (settled-clauses (d .face .settled) (ready-fits d m k .sound) .security) .sure h
 
 -- the device that the guest's step leaves, with its own passwords
 abbrev pub guestLeft : Device → Action → Device

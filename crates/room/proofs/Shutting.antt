@@ -23,15 +23,13 @@ use Rattle.face.specs.declared.Action.the-variants.{WriteRegister}
 use Rattle.transfers.specs.Sectors.{abortFace}
 use Rattle.commands.specs.Gate.{begunOf, abortAtOnce, stationsOf, commandOf}
 use Rattle.shape.specs.Shape.{passwordFits, transferFits}
-use Rattle.shape.proofs.Clauses.{shape-clauses}
 use Rattle.disk.specs.Actions.{writeRegisterOf, actOf}
 use Rattle.device.specs.Alone.{Step}
 use Rattle.device.specs.Host.{Ready, stepOf}
 use Rattle.device.specs.declared.Device.{Device}
-use Rattle.device.proofs.Memories.{shaped-disk}
 use Rattle.laws.proofs.Shape.{guard, drop-leaves}
 use Rattle.laws.proofs.Settling.{drop-settles}
-use Rattle.laws.proofs.Steps.{ready-step, clear-acts}
+use Rattle.laws.proofs.Steps.{ready-fits, ready-step, clear-acts}
 use Rattle.room.specs.Sessions.{Session, sessionOf}
 use Rattle.room.specs.Blocks.{blockAccepted, acceptedOf, mismatchOf, restarts, countedOf, neverRestarts}
 use Rattle.room.specs.Claims.{securityIn, Aborted, UnlockAborts}
@@ -75,14 +73,14 @@ shut-refuses d m a k =
     either-way (acceptedOf d a)
     (λ e.
     let c = completed (blockAccepted (securityIn d) (d .secrets)) (d .face) a e in
-    let fits = sym (ap (transferFits (d .face .settled)) (c .opened)) ∙ shape-clauses (d .face) (shaped-disk d (k .ready .shaped) .0) .fits in
+    let fits = sym (ap (transferFits (d .face .settled)) (c .opened)) ∙ ready-fits d m (k .ready) .fits in
     absurd (false≢true (sym (none-refuses (securityIn d) (d .secrets) (c .block .purpose) _ (shut-exhausted k) fits) ∙ c .passes)))
     (λ e. e)
 
 -- ---- so it stays shut
 
 -- only a start takes mismatches back
-pub counted-grows : (n : ℕ) (d : Device) (a : Action) → restarts a ≡ false → n ≤ countedOf n d a
+counted-grows : (n : ℕ) (d : Device) (a : Action) → restarts a ≡ false → n ≤ countedOf n d a
 unfolding countedOf
 counted-grows n d a e = rw e (pick-both (λ (k : ℕ). n ≤ k) (mismatchOf d a) _ _ (omega arith) (omega arith))
 
@@ -92,7 +90,7 @@ five-spent s n h p = record { is = let q : s .attempts + n ≡ 5 = p .is in omeg
 pub shut-step : (d : Device) (m : List ℕ) (a : Action) → Shut d m → stepOf d m a ≡ guestLeaves d m a
 shut-step d m a k = step-guest d m a (k .ready) (k .locked) (shut-refuses d m a k)
 
-pub shut-stays : (d : Device) (m : List ℕ) (a : Action) → Shut d m → restarts a ≡ false → Shut (guestLeft d a) m
+shut-stays : (d : Device) (m : List ℕ) (a : Action) → Shut d m → restarts a ≡ false → Shut (guestLeft d a) m
 shut-stays d m a k e =
     let s = shut-step d m a k in
     let five = step-five d m a 5 (k .ready) (k .spent) in

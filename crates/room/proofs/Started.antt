@@ -3,8 +3,7 @@ use mathlib.Core.Path.{_≡_, sym, ap, _∙_}
 use mathlib.Core.Bool.{Bool, true}
 use mathlib.Core.List.{List}
 use Prim.Native.Nat.{ℕ}
-use lib.ListN.{length, length-replicate}
-use Rattle.block.specs.Sectors.{zeroBlock}
+use lib.ListN.{length}
 use Rattle.lock.specs.Lock.{isLocked, startingLock}
 use Rattle.face.specs.declared.Face.{Face}
 use Rattle.face.specs.declared.Action.the-variants.{HardwareReset, PowerOn}
@@ -14,7 +13,7 @@ use Rattle.device.specs.Alone.{Step, aloneOf}
 use Rattle.device.specs.Host.{Ready, stepOf}
 use Rattle.device.specs.declared.Device.{Device}
 use Rattle.laws.proofs.Steps.{ready-step}
-use Rattle.laws.proofs.Lengths.{Whole}
+use Rattle.laws.proofs.Lengths.{Whole, zero-length}
 use Rattle.room.specs.Started.{startedFace}
 use Rattle.room.specs.Claims.{securityIn, JustPoweredOn, Guarded, LeavesNothingElse, WhateverCameBefore}
 use Rattle.room.proofs.InShape.{session-whole}
@@ -46,8 +45,7 @@ guarded-locked g = ap (λ (f : Face). isLocked (f .settled .security .lock)) (gu
 
 -- so its buffer is a block
 pub started-whole : (d : Device) (m : List ℕ) → Ready d m → JustPoweredOn stepOf d → Whole d m
-unfolding zeroBlock
-started-whole d m k p = record { ready = k; block = ap (λ (f : Face). length (f .buffer)) (started-face d p) ∙ length-replicate {A = ℕ} 512 0 }
+started-whole d m k p = record { ready = k; block = ap (λ (f : Face). length (f .buffer)) (started-face d p) ∙ zero-length }
 
 pub whatever-came-before : WhateverCameBefore stepOf
 whatever-came-before d m l k = leaves-nothing-else _ _ (session-whole d m l k .ready)
