@@ -201,7 +201,7 @@ def laws_that_are_named_exist(_):
 
 def room_claims_are_theorems(_):
     """docs/ROOM.md pairs each claim with a theorem of just that type, each leak with its refutation, and names nothing that is not there."""
-    text, proofs = read('docs/ROOM.md'), '\n'.join(read(path) for path in glob.glob('crates/room/proofs/*.antt'))
+    text, proofs = read('docs/ROOM.md'), '\n'.join(read(path) for path in glob.glob('crates/room/proofs/*.antt') + glob.glob('crates/runs/proofs/*.antt'))
     claims = re.findall(r'^\| .* \| `(\w+)` \| `([\w-]+)` \|$', text, re.M)
     leaks = re.findall(r'^\| .* \| `(\w+)` \| `(\w+)` \| `([\w-]+)`', text, re.M)
     types = [f'pub {proof} : {claim}' for claim, proof in claims] + [f'pub {proof} : {claim} {wrong} → ⊥' for wrong, claim, proof in leaks]

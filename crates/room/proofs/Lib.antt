@@ -12,9 +12,4 @@ pub mod FiveMismatches
 pub mod Forgetting
 pub mod Running
 pub mod TwelveNumbers
-pub mod OneSector
-pub mod Witnesses
 pub mod WrongRules
-pub mod Leaks
-pub mod BlockLeaks
-pub mod Silence

@@ -7,13 +7,13 @@ use native.Mathlib.Omega.{arith}
 use Rattle.face.specs.declared.Action.{Action}
 use Rattle.face.specs.declared.Action.the-variants.{WriteRegister, ReadWord}
 use Rattle.device.specs.declared.Device.{Device}
 use Rattle.room.specs.Sessions.{Rules, sessionOf}
 use Rattle.room.specs.Blocks.{neverAccepted}
 use Rattle.room.specs.Claims.{holding, Guarded, AlikeOutside, KeepsTheSecret}
 use Rattle.room.proofs.Running.{runningOnBytes}
 use Rattle.room.specs.Sessions.{lastValue}
-use Rattle.room.proofs.OneSector.{lockedAt, passwords, filled, blockOf, unlockingThenStatus, opened, locked-ready, guarded, alike-at}
+use Rattle.runs.proofs.OneSector.{lockedAt, passwords, filled, blockOf, unlockingThenStatus, opened, locked-ready, guarded, alike-at}
 use Rattle.room.proofs.WrongRules.{startKeepsBuffer, compares31Bytes, takesMasterAtMaximum, identifiesASector}
 
 -- ---- demand 3
 

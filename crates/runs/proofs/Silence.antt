@@ -10,11 +10,11 @@ use Rattle.face.specs.declared.Answer.the-variants.{Done}
 use Rattle.face.specs.declared.Action.{Action}
 use Rattle.device.specs.declared.Device.{Device}
 use Rattle.laws.proofs.ReadBack.{putAll}
 use Rattle.room.specs.Sessions.{Given, given, Session, led, sessionOf}
 use Rattle.room.specs.Claims.{securityIn, KeepsTheSecret, RightWords, OpensBeforeFive, unlockWith}
 use Rattle.room.proofs.Running.{runningOnBytes}
-use Rattle.room.proofs.OneSector.{lockedAt, passwords, filled, blockOf, guarded}
+use Rattle.runs.proofs.OneSector.{lockedAt, passwords, filled, blockOf, guarded}
 use Rattle.room.proofs.WrongRules.{saysNothing}
 
 -- 0 for each action
 nothings : List Action → List Given

@@ -10,12 +10,12 @@ use Rattle.face.specs.declared.Action.{Action}
 use Rattle.face.specs.declared.Action.the-variants.{WriteRegister, ReadWord, WriteWord}
 use Rattle.device.specs.Host.{stepOf}
 use Rattle.device.specs.declared.Device.{Device}
 use Rattle.room.specs.Sessions.{Given, given, sessionOf}
 use Rattle.room.specs.Blocks.{acceptedOf, neverAccepted}
 use Rattle.room.specs.Claims.{Guarded, AlikeOutside}
 use Rattle.room.proofs.Running.{runningOnBytes}
 use Rattle.room.specs.Sessions.{lastValue}
-use Rattle.room.proofs.OneSector.{lockedAt, passwords, filled, blockOf, butTheLast, unlocking, unlockingThenStatus, guarded, alike-at}
+use Rattle.runs.proofs.OneSector.{lockedAt, passwords, filled, blockOf, butTheLast, unlocking, unlockingThenStatus, guarded, alike-at}
 
 -- ---- the premise is not empty, and what is equal is not nothing
 
