@@ -24,7 +24,7 @@ use Rattle.face.specs.declared.Transfer.the-variants.{TakingPassword}
 use Rattle.face.specs.declared.Action.the-variants.{WriteWord}
 use Rattle.fastpath.specs.Dev.{ignoredOf}
 use Rattle.transfers.specs.Words.{wordIn}
-use Rattle.password.specs.Passwords.{endedAs, sectorsAs, judgedActed, passwordLast, passwordLastSectors, passwordWord, passwordWordSectors}
+use Rattle.password.specs.Passwords.{passwordEnded, endedAs, sectorsAs, judgedActed, passwordLast, passwordLastSectors, passwordWord, passwordWordSectors}
 use Rattle.effects.specs.Effects.{effect}
 use Rattle.disk.specs.Actions.{writeWordAs, writeWordOf, actOf}
 use Rattle.device.specs.Alone.{Step, stepAs, aloneOf}
@@ -64,6 +64,19 @@ last-word d m p b w k l =
     simp (k .shaped, eq-eqb _ _ (k .long))
     (ap (λ (t : Transfer). stepAs (writeWordAs (d .face) (d .secrets) m w t)) (l .opened) ∙ word-judged d m b w (l .last)
     ∙ ap (λ (q : Purpose). judgedStep d m b w (judgeOf q (d .face .settled .security) (d .secrets) (blockWith d b w))) (l .purpose))
+
+-- the face that a judgement leaves, but for its hot part: settings as judged, the buffer zero
+abbrev pub judgedFace : Device → PasswordBlock → ℕ → Judged → Face
+judgedFace d b w j = passwordEnded (wordIn (d .face) (b .word) w) (j .security)
+
+judged-face : (d : Device) (m : List ℕ) (b : PasswordBlock) (w : ℕ) (j : Judged) (s : Step) → s ≡ judgedStep d m b w j
+    → s .outcome .device .face ≡ withHot (judgedFace d b w j) (s .outcome .device .face .hot)
+judged-face d m b w j s e = rw e (ended-hot (judgedFace d b w j) (j .verdict))
+
+pub last-word-face : (d : Device) (m : List ℕ) (p : Purpose) (b : PasswordBlock) (w : ℕ) → Ready d m → LastWord d p b
+    → stepOf d m (WriteWord w) .outcome .device .face
+    ≡ withHot (judgedFace d b w (judgeOf p (d .face .settled .security) (d .secrets) (blockWith d b w))) (stepOf d m (WriteWord w) .outcome .device .face .hot)
+last-word-face d m p b w k l = judged-face d m b w (judgeOf p (d .face .settled .security) (d .secrets) (blockWith d b w)) _ (last-word d m p b w k l)
 
 -- what UNLOCK's match leaves: open, nothing else of the settings changed, sectors and passwords kept, the buffer zero, answer 0
 pub record Opened (d : Device) (m : List ℕ) (s : Step) : Type 0 where

@@ -1,9 +1,9 @@
 -- A sector written is the sector read back: 256 words written store just these words, and 256 words read are the sector's.
 use mathlib.Core.Path.{_≡_, refl, sym, ap, _∙_}
-use mathlib.Core.List.{List, [], _∷_}
+use mathlib.Core.List.{List, [], _∷_, map}
 use Prim.Native.Nat.{ℕ, zero, suc, _+_, _*_, _≤_, _<_}
 use native.Mathlib.Omega.{arith}
-use lib.ListN.{length}
+use lib.ListN.{length, replicate}
 use borrow.Author.Tests.{eq-eqb, lt-ltb}
 use Rattle.address.specs.declared.Address.{Address}
 use Rattle.address.specs.declared.Address.the-variants.{Names}
@@ -32,6 +32,7 @@ use Rattle.fastpath.specs.Dev.{ignoredOf}
 use Rattle.device.specs.Host.{Ready, shapedOf, stepOf}
 use Rattle.device.specs.declared.Device.{Device}
 use Rattle.device.proofs.Memories.{shaped-memory}
+use Rattle.laws.specs.Sessions.{sessionOf, valuesOf}
 use Rattle.laws.proofs.Reached.{step-shaped}
 use Rattle.laws.proofs.Stored.{word-stores}
 
@@ -87,15 +88,14 @@ partial-step d m r w k e h =
     simp (k .shaped, eq-eqb _ _ (k .long)) (ap (λ (t : Transfer). stepAs (writeWordAs (d .face) (d .secrets) m w t)) e ∙ word-on d m r w h)
 
 -- the sectors after these words are written one after the other
-unfoldable pub sectorsAfter : Device → List ℕ → List ℕ → List ℕ
-sectorsAfter d m [] = m
-sectorsAfter d m (w ∷ ws) = sectorsAfter (stepOf d m (WriteWord w) .outcome .device) (stepOf d m (WriteWord w) .sectors) ws
+abbrev pub sectorsAfter : Device → List ℕ → List ℕ → List ℕ
+sectorsAfter d m ws = sessionOf stepOf d m (map WriteWord ws) .sectors
 
 -- the words that are left of a sector store it: the buffer with these words
 pub sector-written : (ws : List ℕ) (d : Device) (m : List ℕ) (r : Run) (x : Sector) → Ready d m → d .face .hot .transfer ≡ Writing r
     → r .word + length ws ≡ 256 → r .word < 256 → located (d .face .settled) (r .at) ≡ Names x
     → sectorsAfter d m ws ≡ storedAt m (x .number) (putAll (d .face .buffer) (r .word) ws)
-unfolding sectorsAfter putAll
+unfolding sessionOf putAll
 sector-written [] d m r x k e h l n = absurd (let q : r .word + 0 ≡ 256 = h in omega arith)
 sector-written (w ∷ []) d m r x k e h l n = word-stores d m w r x k e (let q : r .word + 1 ≡ 256 = h in omega arith) n
 sector-written (w ∷ v ∷ ws) d m r x k e h l n =
@@ -122,14 +122,13 @@ read-step d m r k e =
     simp (k .shaped, eq-eqb _ _ (k .long)) (ap (λ (t : Transfer). stepAs (effect (toldActed (d .secrets) (readWordAs (d .face) m t)) m)) e)
 
 -- the values of so many data words read one after the other
-unfoldable pub valuesRead : ℕ → Device → List ℕ → List ℕ
-valuesRead zero d m = []
-valuesRead (suc n) d m = stepOf d m ReadWord .outcome .value ∷ valuesRead n (stepOf d m ReadWord .outcome .device) (stepOf d m ReadWord .sectors)
+abbrev pub valuesRead : ℕ → Device → List ℕ → List ℕ
+valuesRead n d m = valuesOf (sessionOf stepOf d m (replicate n ReadWord) .answers)
 
 -- the words that are left of a sector are read off the buffer
 pub sector-read : (n : ℕ) (d : Device) (m : List ℕ) (r : Run) → Ready d m → d .face .hot .transfer ≡ Reading r → r .word + n ≡ 256
     → valuesRead n d m ≡ wordsFrom (d .face .buffer) (r .word) n
-unfolding valuesRead wordsFrom
+unfolding sessionOf wordsFrom
 sector-read zero d m r k e h = refl
 sector-read (suc zero) d m r k e h = ap (λ (t : Step). t .outcome .value ∷ []) (read-step d m r k e)
 sector-read (suc (suc n)) d m r k e h =

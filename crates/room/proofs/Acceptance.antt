@@ -14,13 +14,11 @@ use Rattle.judging.specs.Passwords.{matchesOf}
 use Rattle.judging.specs.Judging.{masterAtMaximum, unlockLocked, unlockOf, acceptsOf, eraseOf, judgeOf}
 use Rattle.face.specs.declared.Action.{Action}
 use Rattle.face.specs.declared.Face.{Face}
-use Rattle.password.specs.Passwords.{passwordEnded}
-use Rattle.transfers.specs.Words.{wordIn}
 use Rattle.device.specs.Alone.{Step}
 use Rattle.device.specs.Host.{Ready, stepOf}
 use Rattle.device.specs.declared.Device.{Device}
 use Rattle.laws.proofs.Shape.{guard}
-use Rattle.laws.proofs.Opens.{ended-hot, blockWith, last-word}
+use Rattle.laws.proofs.Opens.{blockWith, last-word-face}
 use Rattle.room.specs.Blocks.{unlockAccepts, eraseAccepts, blockAccepted, acceptedOf}
 use Rattle.room.specs.Claims.{securityIn, AcceptedOpens}
 use Rattle.room.proofs.Completed.{completed}
@@ -44,10 +42,8 @@ unfolding acceptedOf
 opens d m a k e =
     let c = completed (blockAccepted (securityIn d) (d .secrets)) (d .face) a e in
     let b = c .block in
-    let j = judgeOf (b .purpose) (securityIn d) (d .secrets) (blockWith d b (c .word)) in
     ap (λ (x : Action). securityIn (stepOf d m x .outcome .device) .lock) (c .is)
-    ∙ ap (λ (s : Step). securityIn (s .outcome .device) .lock) (last-word d m (b .purpose) b (c .word) k record { opened = c .opened; purpose = refl; last = c .last })
-    ∙ ap (λ (f : Face). f .settled .security .lock) (ended-hot (passwordEnded (wordIn (d .face) (b .word) (c .word)) (j .security)) (j .verdict))
+    ∙ ap (λ (f : Face). f .settled .security .lock) (last-word-face d m (b .purpose) b (c .word) k record { opened = c .opened; purpose = refl; last = c .last })
     ∙ judged-open (securityIn d) (d .secrets) (b .purpose) (blockWith d b (c .word)) (c .passes)
 
 pub accepted-opens : AcceptedOpens stepOf

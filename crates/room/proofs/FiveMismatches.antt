@@ -20,7 +20,7 @@ use Rattle.device.specs.Alone.{Step}
 use Rattle.device.specs.Host.{Ready, stepOf}
 use Rattle.device.specs.declared.Device.{Device}
 use Rattle.laws.proofs.Lengths.{Whole, step-whole}
-use Rattle.room.specs.Sessions.{sessionOf}
+use Rattle.laws.specs.Sessions.{sessionOf}
 use Rattle.room.specs.Blocks.{unlockAccepts, blockAccepted, acceptedOf, unlockMismatch, mismatchOf, restarts, countedOf, mismatchesFrom, neverRestarts}
 use Rattle.room.specs.Claims.{securityIn, JustPoweredOn, AttemptsCounted, ShutAfterFive, unlockWith, OpensBeforeFive, RightOneShutOut}
 use Rattle.room.proofs.Completed.{completed, completed-other}
@@ -29,7 +29,7 @@ use Rattle.room.proofs.GuestStep.{guestLeaves, step-guest}
 use Rattle.room.proofs.Started.{started-face, started-whole}
 use Rattle.room.proofs.Secrecy.{locked-enabled}
 use Rattle.room.proofs.Counting.{Five, step-five}
-use Rattle.room.proofs.Shutting.{shut-step, shut-session, unlock-aborts}
+use Rattle.room.proofs.Shutting.{five-spent, shut-step, shut-session, unlock-aborts}
 use Rattle.room.proofs.Opening.{right-words-open}
 
 -- ---- a mismatch is of a locked device, and not accepted
@@ -88,7 +88,7 @@ step-counted d m a n k c =
     at-five e q =
         let z : n ≡ 5 = unmoved (restarts a) (mismatchOf d a) n q e in
         let h = c .locked z in
-        stays-locked d m a k h (shut-step d m a record { ready = k; locked = h; spent = record { is = ap (λ (i : ℕ). securityIn d .attempts + i) (sym z) ∙ c .five .is } })
+        stays-locked d m a k h (shut-step d m a record { ready = k; locked = h; spent = five-spent (securityIn d) n (omega arith) (c .five) })
 
 -- ---- any actions
 
@@ -124,7 +124,7 @@ pub shut-after-five : ShutAfterFive stepOf
 shut-after-five d m l a k p e n =
     let s = session-reckoned d m l 0 (started-reckoned d m k p) in
     let t = shut-session _ _ a
-    record { ready = s .whole .ready; locked = s .counted .locked e; spent = record { is = ap (λ (i : ℕ). securityIn (sessionOf stepOf d m l .device) .attempts + i) (sym e) ∙ s .counted .five .is } }
+    record { ready = s .whole .ready; locked = s .counted .locked e; spent = five-spent _ (mismatchesFrom stepOf 0 d m l) (omega (arith, e)) (s .counted .five) }
     n in
     record {
       locked = t .shut .locked;

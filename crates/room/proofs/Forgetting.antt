@@ -8,7 +8,6 @@ use borrow.Author.Tests.{eqb-true}
 use Rattle.base.specs.Choice.{within}
 use Rattle.base.proofs.Tests.{false≢true, either-way}
 use Rattle.block.specs.Sectors.{zeroBlock}
-use Rattle.judging.specs.Judging.{judgeOf}
 use Rattle.face.specs.Face.{withHot, withBuffer, idleFace}
 use Rattle.face.specs.Reads.{isIdle}
 use Rattle.face.specs.Ends.{clearedOf}
@@ -21,20 +20,19 @@ use Rattle.face.specs.declared.Answer.the-variants.{Done}
 use Rattle.resets.specs.Resets.{dropAs, droppedOf}
 use Rattle.resets.specs.Control.{srstOf, controlOf}
 use Rattle.fastpath.specs.Dev.{devSet, ignoredOf}
-use Rattle.transfers.specs.Words.{told, wordIn}
+use Rattle.transfers.specs.Words.{told}
 use Rattle.transfers.specs.declared.Told.{Told}
 use Rattle.commands.specs.Gate.{begunOf, stationsOf, commandOf}
 use Rattle.shape.specs.Shape.{diskFits}
-use Rattle.password.specs.Passwords.{passwordEnded}
 use Rattle.effects.specs.Effects.{effect}
 use Rattle.disk.specs.Actions.{toldActed, writeRegisterOf, actOf}
-use Rattle.device.specs.Alone.{Step, stepAs, aloneOf}
+use Rattle.device.specs.Alone.{stepAs, aloneOf}
 use Rattle.device.specs.Host.{Ready, shapedOf, stepOf}
 use Rattle.device.specs.declared.Device.{Device}
 use Rattle.device.proofs.Memories.{shaped-disk}
 use Rattle.laws.proofs.Shape.{open-free}
 use Rattle.laws.proofs.Reached.{open-clear}
-use Rattle.laws.proofs.Opens.{ended-hot, blockWith, last-word}
+use Rattle.laws.proofs.Opens.{last-word-face}
 use Rattle.laws.proofs.Steps.{ready-fits, ready-step, clear-acts}
 use Rattle.room.specs.Claims.{holding, dropsBlock, ForgetsBlocks}
 
@@ -43,9 +41,7 @@ use Rattle.room.specs.Claims.{holding, dropsBlock, ForgetsBlocks}
 judged-zero : (d : Device) (m : List ℕ) (b : PasswordBlock) (w : ℕ) → Ready d m → d .face .hot .transfer ≡ TakingPassword b → 255 ≤ b .word
     → stepOf d m (WriteWord w) .outcome .device .face .buffer ≡ zeroBlock
 judged-zero d m b w k e h =
-    let j = judgeOf (b .purpose) (d .face .settled .security) (d .secrets) (blockWith d b w) in
-    ap (λ (s : Step). s .outcome .device .face .buffer) (last-word d m (b .purpose) b w k record { opened = e; purpose = refl; last = h })
-    ∙ ap (λ (f : Face). f .buffer) (ended-hot (passwordEnded (wordIn (d .face) (b .word) w) (j .security)) (j .verdict))
+    ap (λ (f : Face). f .buffer) (last-word-face d m (b .purpose) b w k record { opened = e; purpose = refl; last = h })
 
 -- ---- dropped
 

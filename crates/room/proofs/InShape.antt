@@ -8,7 +8,7 @@ use Rattle.device.specs.Host.{stepOf}
 use Rattle.device.specs.declared.Device.{Device}
 use Rattle.laws.proofs.Steps.{ready-step}
 use Rattle.laws.proofs.Lengths.{Whole, step-whole}
-use Rattle.room.specs.Sessions.{led, sessionOf}
+use Rattle.laws.specs.Sessions.{led, sessionOf}
 
 pub session-whole : (d : Device) (m : List ℕ) (l : List Action) → Whole d m → Whole (sessionOf stepOf d m l .device) (sessionOf stepOf d m l .sectors)
 unfolding sessionOf

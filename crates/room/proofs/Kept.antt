@@ -23,17 +23,16 @@ use Rattle.reading.specs.Words.{readWordOf}
 use Rattle.laws.proofs.Settling.{Closed, write-register-settles, read-word-settles}
 use Rattle.room.specs.Guest.{refusedSecurity, refusedLast, guestPassword, guestWord, guestAct, guestStep}
 
--- the settled part of a locked disk
+-- security settings that say locked, and a settled part that has them
+abbrev LockedBy : Security → Type 0
+LockedBy s = isLocked (s .lock) ≡ true
+
 abbrev pub LockedIn : Settled → Type 0
-LockedIn s = isLocked (s .security .lock) ≡ true
+LockedIn s = LockedBy (s .security)
 
 pub locked-closed : Closed LockedIn
 locked-closed =
     record { translation = λ s t p. p; prepared = λ s p. p; unprepared = λ s p. p; frozen = λ s h p. absurd (false≢true (sym h ∙ p)) }
-
--- said of security settings, for the choices in their definitions
-abbrev LockedBy : Security → Type 0
-LockedBy s = isLocked (s .lock) ≡ true
 
 mismatched-locked : (s : Security) → LockedBy s → LockedBy (mismatchedOf s)
 unfolding mismatchedOf

@@ -42,7 +42,7 @@ use Rattle.device.specs.declared.Device.{Device}
 use Rattle.laws.proofs.ReadBack.{putAll}
 use Rattle.laws.proofs.Opens.{judgedStep, blockWith, last-word}
 use Rattle.laws.proofs.Steps.{ready-step, ready-after}
-use Rattle.room.specs.Sessions.{sessionOf}
+use Rattle.laws.specs.Sessions.{sessionOf}
 use Rattle.room.specs.Claims.{securityIn, unlockWith, RightWords}
 
 -- ---- the words of the block

@@ -34,7 +34,7 @@ use Rattle.disk.specs.Actions.{writeRegisterOf, writeWordOf, actOf}
 use Rattle.shape.specs.Shape.{runFits, passwordFits, heldFits, diskFits}
 use Rattle.device.specs.Alone.{aloneOf}
 use Rattle.device.specs.Host.{aloneFits, shapedOf, stepOf}
-use Rattle.room.specs.Sessions.{Rules, sessionOf}
+use Rattle.laws.specs.Sessions.{Rules, sessionOf}
 use Rattle.room.specs.Blocks.{completedOf, unlockAccepts, eraseAccepts, acceptedOf, neverAccepted, mismatchOf, countedOf, mismatchesFrom, neverRestarts}
 
 -- all but those that look into blocks and sectors, which may then be any

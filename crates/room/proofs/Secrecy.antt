@@ -13,14 +13,13 @@ use Rattle.device.specs.Host.{Ready, stepOf}
 use Rattle.device.specs.declared.Device.{Device}
 use Rattle.laws.proofs.Shape.{guard}
 use Rattle.laws.proofs.Steps.{ready-fits, ready-step, ready-after}
-use Rattle.room.specs.Sessions.{Session, led, sessionOf}
+use Rattle.laws.specs.Sessions.{Session, led, sessionOf}
 use Rattle.room.specs.Blocks.{acceptedOf, neverAccepted}
-use Rattle.room.specs.Started.{startedFace}
 use Rattle.room.specs.Guest.{guestStep, guestAnswers, guestFace}
 use Rattle.room.specs.Claims.{securityIn, Guarded, AlikeOutside, Untouched, KeepsTheSecret, AnswersByFace, AnswersByOutside}
 use Rattle.room.proofs.Kept.{guest-locked}
 use Rattle.room.proofs.GuestStep.{guestLeaves, step-guest}
-use Rattle.room.proofs.Started.{guarded-face, guarded-locked}
+use Rattle.room.proofs.Started.{startedBy, guarded-face, guarded-locked}
 
 -- ---- one action
 
@@ -60,9 +59,7 @@ untouched d m l g e =
     let s = answers-by-face d m l (g .ready) (guarded-locked g) e in
     record { sectors = ap (λ (t : Session). t .sectors) s; passwords = ap (λ (t : Session). t .device .secrets) s }
 
-same-face : {d e : Device} → AlikeOutside d e
-    → startedFace (d .face .settled .geometry) (d .face .settled .identity) (securityIn d .maximum) true
-    ≡ startedFace (e .face .settled .geometry) (e .face .settled .identity) (securityIn e .maximum) true
+same-face : {d e : Device} → AlikeOutside d e → startedBy d true ≡ startedBy e true
 same-face o = rw (o .geometry, o .identity, o .level)
 
 pub keeps-the-secret : KeepsTheSecret stepOf

@@ -30,7 +30,7 @@ use Rattle.device.specs.declared.Device.{Device}
 use Rattle.laws.proofs.Shape.{guard, drop-leaves}
 use Rattle.laws.proofs.Settling.{drop-settles}
 use Rattle.laws.proofs.Steps.{ready-fits, ready-step, clear-acts}
-use Rattle.room.specs.Sessions.{Session, sessionOf}
+use Rattle.laws.specs.Sessions.{Session, sessionOf}
 use Rattle.room.specs.Blocks.{blockAccepted, acceptedOf, mismatchOf, restarts, countedOf, neverRestarts}
 use Rattle.room.specs.Claims.{securityIn, Aborted, UnlockAborts}
 use Rattle.room.proofs.Completed.{completed}
@@ -84,7 +84,8 @@ counted-grows : (n : ℕ) (d : Device) (a : Action) → restarts a ≡ false →
 unfolding countedOf
 counted-grows n d a e = rw e (pick-both (λ (k : ℕ). n ≤ k) (mismatchOf d a) _ _ (omega arith) (omega arith))
 
-five-spent : (s : Security) (n : ℕ) → 5 ≤ n → Five s n → Five s 5
+-- five mismatches, and no attempt left
+pub five-spent : (s : Security) (n : ℕ) → 5 ≤ n → Five s n → Five s 5
 five-spent s n h p = record { is = let q : s .attempts + n ≡ 5 = p .is in omega arith }
 
 pub shut-step : (d : Device) (m : List ℕ) (a : Action) → Shut d m → stepOf d m a ≡ guestLeaves d m a

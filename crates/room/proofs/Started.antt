@@ -23,21 +23,18 @@ pub leaves-nothing-else : LeavesNothingElse stepOf
 unfolding aloneOf ignoredOf actOf
 leaves-nothing-else d m k = record { by-power-on = ready-step d m PowerOn k; by-hardware-reset = ready-step d m HardwareReset k }
 
--- the face that a start would make of a device
-abbrev pub restartedFace : Device → Face
-restartedFace d = startedFace (d .face .settled .geometry) (d .face .settled .identity) (securityIn d .maximum) (securityIn d .enabled)
+-- the face that a start makes of a device's geometry, identity and level, and this enabled mark
+abbrev pub startedBy : Device → Bool → Face
+startedBy d enabled = startedFace (d .face .settled .geometry) (d .face .settled .identity) (securityIn d .maximum) enabled
 
 -- a just powered-on device has it
-pub started-face : (d : Device) → JustPoweredOn stepOf d → d .face ≡ restartedFace d
+pub started-face : (d : Device) → JustPoweredOn stepOf d → d .face ≡ startedBy d (securityIn d .enabled)
 started-face d p =
     let e = sym (ap (λ (s : Step). s .outcome .device) (leaves-nothing-else (p .before) (p .memory) (p .ready) .by-power-on)) ∙ p .left in
-    sym (ap (λ (y : Device). y .face) e) ∙ ap restartedFace e
+    sym (ap (λ (y : Device). y .face) e) ∙ ap (λ (y : Device). startedBy y (securityIn y .enabled)) e
 
-pub guarded-face : {d : Device} {m : List ℕ} → Guarded stepOf d m
-    → d .face ≡ startedFace (d .face .settled .geometry) (d .face .settled .identity) (securityIn d .maximum) true
-guarded-face {d} g =
-    started-face d (g .started)
-    ∙ ap (λ (b : Bool). startedFace (d .face .settled .geometry) (d .face .settled .identity) (securityIn d .maximum) b) (g .enabled)
+pub guarded-face : {d : Device} {m : List ℕ} → Guarded stepOf d m → d .face ≡ startedBy d true
+guarded-face {d} g = started-face d (g .started) ∙ ap (startedBy d) (g .enabled)
 
 pub guarded-locked : {d : Device} {m : List ℕ} → Guarded stepOf d m → isLocked (securityIn d .lock) ≡ true
 unfolding startingLock

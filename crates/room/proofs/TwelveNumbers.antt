@@ -17,11 +17,11 @@ use Rattle.device.specs.Setup.{freshOf}
 use Rattle.laws.proofs.Reached.{fresh-shaped}
 use Rattle.laws.proofs.Lengths.{Whole, zero-length}
 use Rattle.laws.proofs.ReadBack.{wordsFrom}
-use Rattle.room.specs.Sessions.{Session, sessionOf}
+use Rattle.laws.specs.Sessions.{Session, sessionOf}
 use Rattle.room.specs.TwelveNumbers.{readingOn, EndsAfter256, TwelveNumbers}
 use Rattle.room.proofs.Running.{running}
 use Rattle.room.proofs.InShape.{alone-session}
-use Rattle.room.specs.Sessions.{valuesOf, lastValue, registerAfter}
+use Rattle.laws.specs.Sessions.{valuesOf, lastValue, registerAfter}
 
 ends-alone : (i : Identity) (p m : List ℕ) → EndsAfter256 aloneOf (freshOf small i p) m
 unfolding running wordsFrom

@@ -25,7 +25,7 @@ use Rattle.password.specs.Passwords.{passwordEnded}
 use Rattle.device.specs.Alone.{Step, deviceOf, shown}
 use Rattle.device.specs.Host.{stepOf}
 use Rattle.device.specs.declared.Device.{Device}
-use Rattle.room.specs.Sessions.{Rules}
+use Rattle.laws.specs.Sessions.{Rules}
 use Rattle.room.specs.Blocks.{completedOf, restarts}
 use Rattle.room.specs.Claims.{securityIn}
 

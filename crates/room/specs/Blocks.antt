@@ -18,7 +18,7 @@ use Rattle.face.specs.declared.Face.{Face}
 use Rattle.face.specs.declared.Action.{Action}
 use Rattle.face.specs.declared.Action.the-variants.{ReadRegister, WriteRegister, ReadWord, WriteWord, HardwareReset, PowerOn, Line}
 use Rattle.device.specs.declared.Device.{Device}
-use Rattle.room.specs.Sessions.{Rules}
+use Rattle.laws.specs.Sessions.{Rules}
 
 -- a test of a password block once its 256th word w is in it, by the transfer that is open
 abbrev pub completedAs : (Purpose → List ℕ → Bool) → Face → ℕ → Transfer → Bool

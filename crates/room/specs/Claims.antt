@@ -27,7 +27,7 @@ use Rattle.device.specs.Host.{Ready}
 use Rattle.device.specs.declared.Device.{Device}
 use Rattle.laws.proofs.ReadBack.{putAll}
 use Rattle.laws.proofs.Lengths.{Whole}
-use Rattle.room.specs.Sessions.{Rules, sessionOf}
+use Rattle.laws.specs.Sessions.{Rules, sessionOf}
 use Rattle.room.specs.Blocks.{acceptedOf, neverAccepted, mismatchesFrom, neverRestarts}
 use Rattle.room.specs.Started.{startedFace, startedStep}
 use Rattle.room.specs.Guest.{guestAnswers, guestFace}

@@ -26,7 +26,7 @@ use Rattle.transfers.specs.declared.Told.{Told}
 use Rattle.reading.specs.Words.{readWordOf}
 use Rattle.password.specs.Passwords.{passwordEnded, passwordMore}
 use Rattle.disk.specs.Actions.{writeRegisterOf}
-use Rattle.room.specs.Sessions.{Given, given}
+use Rattle.laws.specs.Sessions.{Given, given}
 
 -- a refused block: F2h "a mismatch .. takes one attempt", but for "master at Maximum"; F4h's preparation ends
 abbrev pub refusedSecurity : Security → List ℕ → Purpose → Security

@@ -1,4 +1,3 @@
-pub mod Sessions
 pub mod Blocks
 pub mod Started
 pub mod Guest

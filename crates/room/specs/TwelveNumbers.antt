@@ -24,7 +24,7 @@ use Rattle.device.specs.Host.{stepOf}
 use Rattle.device.specs.Setup.{freshOf}
 use Rattle.device.specs.declared.Device.{Device}
 use Rattle.laws.proofs.ReadBack.{wordsFrom}
-use Rattle.room.specs.Sessions.{Rules, sessionOf, valuesOf, registerAfter}
+use Rattle.laws.specs.Sessions.{Rules, sessionOf, valuesOf, registerAfter}
 
 -- "reading LBA 63 with count 2", n data words of it
 abbrev pub readingOn : ℕ → List Action

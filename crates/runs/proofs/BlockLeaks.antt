@@ -17,17 +17,13 @@ use Rattle.face.specs.declared.Action.the-variants.{WriteRegister, ReadWord}
 use Rattle.transfers.specs.Sectors.{abortFace}
 use Rattle.device.specs.Alone.{Step, deviceOf}
 use Rattle.device.specs.declared.Device.{Device}
-use Rattle.room.specs.Sessions.{Session, given, sessionOf}
+use Rattle.laws.specs.Sessions.{Session, given, sessionOf}
 use Rattle.room.specs.Blocks.{mismatchesFrom, neverRestarts}
 use Rattle.room.specs.Claims.{securityIn, Guarded, ShutOut, ForgetsBlocks, ShutAfterFive}
 use Rattle.room.proofs.Running.{runningOnBytes}
-use Rattle.room.specs.Sessions.{valuesOf}
-use Rattle.runs.proofs.OneSector.{lockedAt, passwords, filled, blockOf, butTheLast, unlocking, guarded}
+use Rattle.laws.specs.Sessions.{valuesOf}
+use Rattle.runs.proofs.OneSector.{disk, passwords, filled, blockOf, butTheLast, unlocking, guarded}
 use Rattle.room.proofs.WrongRules.{judgedBlockStays, cutBlockStays, softResetGivesAttempts}
-
--- a locked disk whose user password is bytes 1
-abbrev disk : Device
-disk = lockedAt false (passwords 1 7)
 
 -- ---- a judged block
 

@@ -7,12 +7,12 @@ use native.Mathlib.Omega.{arith}
 use Rattle.face.specs.declared.Action.{Action}
 use Rattle.face.specs.declared.Action.the-variants.{WriteRegister, ReadWord}
 use Rattle.device.specs.declared.Device.{Device}
-use Rattle.room.specs.Sessions.{Rules, sessionOf}
+use Rattle.laws.specs.Sessions.{Rules, sessionOf}
 use Rattle.room.specs.Blocks.{neverAccepted}
 use Rattle.room.specs.Claims.{holding, Guarded, AlikeOutside, KeepsTheSecret}
 use Rattle.room.proofs.Running.{runningOnBytes}
-use Rattle.room.specs.Sessions.{lastValue}
-use Rattle.runs.proofs.OneSector.{lockedAt, passwords, filled, blockOf, unlockingThenStatus, opened, locked-ready, guarded, alike-at}
+use Rattle.laws.specs.Sessions.{lastValue}
+use Rattle.runs.proofs.OneSector.{disk, lockedAt, passwords, filled, blockOf, unlockingThenStatus, opened, locked-ready, guarded, alike-at}
 use Rattle.room.proofs.WrongRules.{startKeepsBuffer, compares31Bytes, takesMasterAtMaximum, identifiesASector}
 
 -- ---- demand 3
@@ -37,7 +37,7 @@ not-kept t apart k =
     ∙ t .second .last)
 
 -- a block that is right but for the 32nd byte opens one of them
-pub compares31Bytes-run : TellsApart compares31Bytes (lockedAt false (passwords 1 7)) (lockedAt false (passwords 2 7)) (filled 0) (filled 0)
+pub compares31Bytes-run : TellsApart compares31Bytes disk (lockedAt false (passwords 2 7)) (filled 0) (filled 0)
     (unlockingThenStatus (blockOf 0 0x0101 0x0201)) 0x50 0x51
 unfolding runningOnBytes compares31Bytes
 compares31Bytes-run =
@@ -65,7 +65,7 @@ pub takesMasterAtMaximum-leaks : KeepsTheSecret takesMasterAtMaximum → ⊥
 takesMasterAtMaximum-leaks = not-kept takesMasterAtMaximum-run (λ e. omega arith)
 
 -- the first word of IDENTIFY
-pub identifiesASector-run : TellsApart identifiesASector (lockedAt false (passwords 1 7)) (lockedAt false (passwords 1 7)) (filled 1) (filled 2)
+pub identifiesASector-run : TellsApart identifiesASector disk disk (filled 1) (filled 2)
     (WriteRegister 7 0xEC ∷ ReadWord ∷ []) 1 2
 unfolding runningOnBytes identifiesASector
 identifiesASector-run =
@@ -80,11 +80,11 @@ identifiesASector-leaks = not-kept identifiesASector-run (λ e. omega arith)
 
 -- payment, who has opened the disk, reads the sector: READ SECTOR(S) puts it into the buffer
 abbrev paid : List ℕ → Device
-paid m = startKeepsBuffer (opened (lockedAt false (passwords 1 7))) m (WriteRegister 7 0x20) .outcome .device
+paid m = startKeepsBuffer (opened disk) m (WriteRegister 7 0x20) .outcome .device
 
 -- the next power-on then leaves this disk: locked, and the sector, 512 bytes v, still in the buffer
 abbrev afterPayment : ℕ → Device
-afterPayment v = holding (lockedAt false (passwords 1 7)) (filled v)
+afterPayment v = holding disk (filled v)
 
 after-payment : (v : ℕ) → Guarded startKeepsBuffer (afterPayment v) (filled v)
 unfolding runningOnBytes startKeepsBuffer

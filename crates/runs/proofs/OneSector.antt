@@ -1,7 +1,7 @@
 -- Disks of one sector, just powered on with security enabled, and the blocks that guests send them: small, so that their runs compute.
 use Prim.Native.Nat.{ℕ}
 use mathlib.Core.Path.{_≡_, refl}
-use mathlib.Core.Bool.{Bool, true}
+use mathlib.Core.Bool.{Bool, true, false}
 use mathlib.Core.List.{List, [], _∷_, _++_, map}
 use lib.ListN.{length, replicate}
 use Rattle.geometry.specs.Geometry.{geometryOf}
@@ -15,7 +15,7 @@ use Rattle.face.specs.declared.Action.the-variants.{ReadRegister, WriteRegister
 use Rattle.device.specs.Alone.{deviceOf}
 use Rattle.device.specs.Host.{Ready}
 use Rattle.device.specs.declared.Device.{Device}
-use Rattle.room.specs.Sessions.{Rules}
+use Rattle.laws.specs.Sessions.{Rules}
 use Rattle.room.specs.Started.{startedFace}
 use Rattle.room.specs.Claims.{securityIn, holding, Guarded, AlikeOutside}
 use Rattle.room.proofs.Running.{running}
@@ -35,6 +35,10 @@ opened d = deviceOf (withSettled (d .face) (withSecurity (d .face .settled) (ope
 -- a user password of 32 bytes u and a master password of 32 bytes v
 abbrev pub passwords : ℕ → ℕ → Secrets
 passwords u v = record { user = replicate 32 u; master = replicate 32 v }
+
+-- a locked disk whose user password is bytes 1
+abbrev pub disk : Device
+disk = lockedAt false (passwords 1 7)
 
 -- a memory of 512 bytes v
 abbrev pub filled : ℕ → List ℕ

@@ -10,10 +10,10 @@ use Rattle.face.specs.declared.Answer.the-variants.{Done}
 use Rattle.face.specs.declared.Action.{Action}
 use Rattle.device.specs.declared.Device.{Device}
 use Rattle.laws.proofs.ReadBack.{putAll}
-use Rattle.room.specs.Sessions.{Given, given, Session, led, sessionOf}
+use Rattle.laws.specs.Sessions.{Given, given, Session, led, sessionOf}
 use Rattle.room.specs.Claims.{securityIn, KeepsTheSecret, RightWords, OpensBeforeFive, unlockWith}
 use Rattle.room.proofs.Running.{runningOnBytes}
-use Rattle.runs.proofs.OneSector.{lockedAt, passwords, filled, blockOf, guarded}
+use Rattle.runs.proofs.OneSector.{disk, passwords, filled, blockOf, guarded}
 use Rattle.room.proofs.WrongRules.{saysNothing}
 
 -- 0 for each action
@@ -35,10 +35,6 @@ saysNothing-keeps-the-secret d e m n l g h o p q =
       first = record { sectors = ap (λ (x : Session). x .sectors) s; passwords = ap (λ (x : Session). x .device .secrets) s };
       second = record { sectors = ap (λ (x : Session). x .sectors) t; passwords = ap (λ (x : Session). x .device .secrets) t };
     }
-
--- a locked disk and 256 words with its user password
-abbrev disk : Device
-disk = lockedAt false (passwords 1 7)
 
 right : RightWords disk (blockOf 0 0x0101 0x0101)
 unfolding runningOnBytes putAll

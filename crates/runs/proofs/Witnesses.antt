@@ -10,12 +10,12 @@ use Rattle.face.specs.declared.Action.{Action}
 use Rattle.face.specs.declared.Action.the-variants.{WriteRegister, ReadWord, WriteWord}
 use Rattle.device.specs.Host.{stepOf}
 use Rattle.device.specs.declared.Device.{Device}
-use Rattle.room.specs.Sessions.{Given, given, sessionOf}
+use Rattle.laws.specs.Sessions.{Given, given, sessionOf}
 use Rattle.room.specs.Blocks.{acceptedOf, neverAccepted}
 use Rattle.room.specs.Claims.{Guarded, AlikeOutside}
 use Rattle.room.proofs.Running.{runningOnBytes}
-use Rattle.room.specs.Sessions.{lastValue}
-use Rattle.runs.proofs.OneSector.{lockedAt, passwords, filled, blockOf, butTheLast, unlocking, unlockingThenStatus, guarded, alike-at}
+use Rattle.laws.specs.Sessions.{lastValue}
+use Rattle.runs.proofs.OneSector.{disk, lockedAt, passwords, filled, blockOf, butTheLast, unlocking, unlockingThenStatus, guarded, alike-at}
 
 -- ---- the premise is not empty, and what is equal is not nothing
 
@@ -37,7 +37,7 @@ unlike : (k u v : ℕ) → (u ≡ v → ⊥) → replicate (suc k) u ≡ replica
 unlike k u v h e = h (ap (λ (l : List ℕ). getD l 0 0) e)
 
 -- IDENTIFY, two of its words, UNLOCK with a password that neither has, and Status: 0040h, one cylinder, 51h
-pub both-answer : BothAnswer (lockedAt false (passwords 1 7)) (lockedAt false (passwords 2 8)) (filled 1) (filled 2)
+pub both-answer : BothAnswer disk (lockedAt false (passwords 2 8)) (filled 1) (filled 2)
     (WriteRegister 7 0xEC ∷ ReadWord ∷ ReadWord ∷ unlockingThenStatus (blockOf 0 0x0303 0x0303))
     (given Done 0 ∷ given Done 0x0040 ∷ given Done 1 ∷ replicate 257 (given Done 0) ++ (given Done 0x51 ∷ []))
 unfolding runningOnBytes
@@ -68,7 +68,7 @@ pub record OneAccepts (d e : Device) (m : List ℕ) (ws : List ℕ) (w : ℕ) : 
   pub opens : lastValue (sessionOf stepOf d m (unlockingThenStatus (ws ++ (w ∷ []))) .answers) ≡ 0x50
   pub aborts : lastValue (sessionOf stepOf e m (unlockingThenStatus (ws ++ (w ∷ []))) .answers) ≡ 0x51
 
-pub one-accepts : OneAccepts (lockedAt false (passwords 1 7)) (lockedAt false (passwords 2 7)) (filled 0) (butTheLast 0x0101) 0
+pub one-accepts : OneAccepts disk (lockedAt false (passwords 2 7)) (filled 0) (butTheLast 0x0101) 0
 unfolding runningOnBytes
 one-accepts =
     record {
