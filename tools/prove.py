@@ -183,8 +183,11 @@ def calls_up_to(crate):
 def modules_of_names(crate):
     """{name: module} for all that a proof of the crate may cite."""
     where = {name: module for module, names in KIT.items() for name in names.split()}
+    listed = tree.crates()
     for path in sorted(glob.glob('crates/*/specs/*.antt') + glob.glob('crates/*/proofs/*.antt')):
         owner, part, name = re.match(r'crates/(\w+)/(specs|proofs)/(\w+)\.antt', path).groups()
+        if owner not in listed[:listed.index(crate) + 1]:
+            continue
         module = f'Rattle.{crate}.{part}.{name}' if owner == crate else f'Rattle.{owner}.{part}.{name}'
         where.update((public, module) for public in tree.public_names(path))
     return where

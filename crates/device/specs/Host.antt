@@ -7,11 +7,12 @@ use lib.Dec.{eqb}
 use lib.ListN.{length}
 use Rattle.base.specs.Choice.{pick}
 use Rattle.geometry.specs.Geometry.{capacityOf}
+use Rattle.settled.specs.declared.Settled.{Settled}
 use Rattle.face.specs.Reads.{isIdle}
 use Rattle.face.specs.declared.Hot.{Hot}
 use Rattle.face.specs.declared.Answer.the-variants.{OutOfShape, WrongLength}
 use Rattle.face.specs.declared.Action.{Action}
-use Rattle.shape.specs.Shape.{diskFits}
+use Rattle.shape.specs.Shape.{partsFit}
 use Rattle.device.specs.Alone.{Step, shown, aloneOf}
 use Rattle.fastpath.specs.Dev.{devSet}
 use Rattle.device.specs.declared.Device.{Device}
@@ -20,9 +21,13 @@ use Rattle.device.specs.declared.Device.{Device}
 unfoldable pub aloneFits : Hot → Bool
 aloneFits h = pick (devSet h) (pick (h .signals .held) false (isIdle (h .transfer))) true
 
+-- all clauses: none of them asks for the buffer or the passwords
+abbrev pub partsShaped : Settled → Hot → Bool
+partsShaped s h = pick (partsFit s h) (aloneFits h) false
+
 -- the device is in shape
 unfoldable pub shapedOf : Device → Bool
-shapedOf d = pick (diskFits (d .face)) (aloneFits (d .face .hot)) false
+shapedOf d = partsShaped (d .face .settled) (d .face .hot)
 
 -- "sector memory is exactly 512 x capacity bytes"
 abbrev pub memoryLength : Device → ℕ

@@ -3,7 +3,7 @@ ghost use mathlib.Core.Path.{_≡_};
 ghost use Rattle.transfers.specs.Sectors.{Memory};
 ghost use Rattle.device.specs.Setup.{zeroDevice, freshOf, setupOf};
 ghost use Rattle.device.specs.Alone.{outcome, quickOutcome, toldOf, actedOf, aloneOf};
-ghost use Rattle.device.specs.Host.{aloneFits, shapedOf, stepOf};
+ghost use Rattle.device.specs.Host.{aloneFits, partsShaped, shapedOf, stepOf};
 use effects::Acted;
 use face::Action;
 use face::Answer;
@@ -15,6 +15,7 @@ use geometry::Checked;
 use geometry::Geometry;
 use lock::Secrets;
 use settled::Identity;
+use settled::Settled;
 
 pub struct Device {
     pub face: Face,
@@ -58,6 +59,16 @@ fn alone_fits(hot: Hot) -> bool
         return hot.idle();
     }
     true
+}
+
+// The clauses of answer 2, over the parts that they speak of.
+pub fn fits(settled: Settled, hot: Hot) -> bool
+    ensures { λ r. ⌜ r ≡ partsShaped settled hot ⌝ }
+{
+    if shape::fits(settled, hot) {
+        return alone_fits(hot);
+    }
+    false
 }
 
 // What a disk's own action left.
@@ -106,11 +117,7 @@ impl Device {
         ensures { λ r. ⌜ r ≡ shapedOf self ⌝ }
     {
         let face = self.face;
-        let hot = face.hot;
-        if shape::fits(face) {
-            return alone_fits(hot);
-        }
-        false
+        fits(face.settled, face.hot)
     }
 
     // The disk's own action.

@@ -57,7 +57,7 @@ use Rattle.face.specs.Setup.{zeroFace}
 use Rattle.transfers.specs.declared.Told.{Told}
 use Rattle.commands.specs.Others.{seekAs, seekOf, recalibrateOf, initializeAs, initializeParametersOf, diagnosticOf, identifyDeviceOf, readBufferOf, writeBufferOf, takePasswordOf, erasePrepareOf, freezeLockOf}
 use Rattle.commands.specs.Gate.{begunOf, abortAtOnce, runOf, stationsOf, commandOf}
-use Rattle.shape.specs.Shape.{diskFits}
+use Rattle.shape.specs.Shape.{partsFit, diskFits}
 use Rattle.password.specs.Passwords.{passwordEnded, endedAs, judgementOf, passwordLast, passwordWord}
 use Rattle.effects.specs.declared.Acted.{Acted}
 use Rattle.disk.specs.Actions.{writeRegisterOf, writeWordAs, writeWordOf, actOf}
@@ -397,7 +397,7 @@ fresh-shaped g i p e h = shaped-of _ (clauses-shape _ (power-on-fits (withSettle
 
 -- a refused setup's record is out of shape
 pub zero-out-of-shape : shapedOf zeroDevice ≡ false
-unfolding shapedOf diskFits settledFits geometryFits within
+unfolding shapedOf partsFit settledFits geometryFits within
 zero-out-of-shape = refl
 
 -- a call of the host: the memory that it lends, and its action

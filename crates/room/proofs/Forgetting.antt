@@ -23,7 +23,7 @@ use Rattle.fastpath.specs.Dev.{devSet, ignoredOf}
 use Rattle.transfers.specs.Words.{told}
 use Rattle.transfers.specs.declared.Told.{Told}
 use Rattle.commands.specs.Gate.{begunOf, stationsOf, commandOf}
-use Rattle.shape.specs.Shape.{diskFits}
+use Rattle.shape.specs.Shape.{partsFit}
 use Rattle.effects.specs.Effects.{effect}
 use Rattle.disk.specs.Actions.{toldActed, writeRegisterOf, actOf}
 use Rattle.device.specs.Alone.{stepAs, aloneOf}
@@ -88,7 +88,7 @@ alone-forgets d m c b Line e h q k = absurd (false≢true k)
 
 -- the shape does not look at the buffer
 holding-ready : (d : Device) (m c : List ℕ) → Ready d m → Ready (holding d c) m
-unfolding shapedOf diskFits
+unfolding shapedOf partsFit
 holding-ready d m c k = record { shaped = k .shaped; long = k .long }
 
 -- no password block leaves a word of itself

@@ -31,7 +31,7 @@ use Rattle.commands.specs.Gate.{begunOf, abortAtOnce, stationsOf, commandOf}
 use Rattle.fastpath.specs.Dev.{devSet, ignoredOf}
 use Rattle.password.specs.Passwords.{passwordLast, passwordLastSectors, passwordWord, passwordWordSectors}
 use Rattle.disk.specs.Actions.{writeRegisterOf, writeWordOf, actOf}
-use Rattle.shape.specs.Shape.{runFits, passwordFits, heldFits, diskFits}
+use Rattle.shape.specs.Shape.{runFits, passwordFits, heldFits, partsFit}
 use Rattle.device.specs.Alone.{aloneOf}
 use Rattle.device.specs.Host.{aloneFits, shapedOf, stepOf}
 use Rattle.laws.specs.Sessions.{Rules, sessionOf}
@@ -39,7 +39,7 @@ use Rattle.room.specs.Blocks.{completedOf, unlockAccepts, eraseAccepts, 
 
 -- all but those that look into blocks and sectors, which may then be any
 unfoldable pub running : Rules
-unfolding within maxCylinders maxHeads maxSectors geometryFits capacityOf cylindersFor initializedOf translationAllowed productOf lbaSelected lbaOf cylinderOf headOf lbaAddress chsNumber chsAddress addressOf lbaSuccessor chsSuccessor successorOf startingLock exhaustedOf cannotErase securityFits masterPicked pickedOf matchesOf mismatchedOf masterAtMaximum unlockLocked unlockOf judgeOf codedOf decodeOf mayRunOf printable identityFits settledFits securityWord textWord numberWord identifyWord wordsOf identifyOf statusOf readRegister busyOf storeRegister putRegister droppedOf srstOf nienOf controlOf afterOf notFoundOf readBufferWord readAt readSectorsOf readNextOf readRunOf readWordOf identifyDeviceOf readBufferOf takePasswordOf begunOf abortAtOnce stationsOf commandOf devSet ignoredOf passwordLast passwordLastSectors passwordWord passwordWordSectors writeRegisterOf writeWordOf actOf runFits passwordFits heldFits diskFits aloneOf aloneFits shapedOf stepOf sessionOf completedOf unlockAccepts eraseAccepts acceptedOf neverAccepted mismatchOf countedOf mismatchesFrom neverRestarts
+unfolding within maxCylinders maxHeads maxSectors geometryFits capacityOf cylindersFor initializedOf translationAllowed productOf lbaSelected lbaOf cylinderOf headOf lbaAddress chsNumber chsAddress addressOf lbaSuccessor chsSuccessor successorOf startingLock exhaustedOf cannotErase securityFits masterPicked pickedOf matchesOf mismatchedOf masterAtMaximum unlockLocked unlockOf judgeOf codedOf decodeOf mayRunOf printable identityFits settledFits securityWord textWord numberWord identifyWord wordsOf identifyOf statusOf readRegister busyOf storeRegister putRegister droppedOf srstOf nienOf controlOf afterOf notFoundOf readBufferWord readAt readSectorsOf readNextOf readRunOf readWordOf identifyDeviceOf readBufferOf takePasswordOf begunOf abortAtOnce stationsOf commandOf devSet ignoredOf passwordLast passwordLastSectors passwordWord passwordWordSectors writeRegisterOf writeWordOf actOf runFits passwordFits heldFits partsFit aloneOf aloneFits shapedOf stepOf sessionOf completedOf unlockAccepts eraseAccepts acceptedOf neverAccepted mismatchOf countedOf mismatchesFrom neverRestarts
 running = stepOf
 
 -- those too

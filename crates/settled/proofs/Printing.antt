@@ -1,33 +1,47 @@
--- What the loop over an identity's bytes keeps: those seen are printable, so that the rest decides.
-use mathlib.Core.Bool.{true, false}
-use mathlib.Core.Path.{_≡_, refl, sym, _∙_}
+-- What the loop over an identity's bytes keeps: whether those seen are printable, so that the rest decides with it.
+use mathlib.Core.Bool.{Bool, true, false, _&&_}
+use mathlib.Core.Path.{_≡_, refl, sym, ap, _∙_}
 use mathlib.Core.List.{List}
 use Prim.Native.Nat.{ℕ, _+_, _≤_, _<_}
 use native.Mathlib.Numerals.{add-one}
 use native.Mathlib.Omega.{arith}
 use lib.ListN.{length, getD, drop}
 use lib.Seq.{drop-cons, drop-length}
+use Rattle.base.specs.Choice.{pick}
 use Rattle.settled.specs.Identity.{plain, printable}
 
--- j bytes of t have been seen
-pub record Seen (t : List ℕ) (j : ℕ) : Type 0 where
+-- j bytes of t have been seen: `all` says whether they are printable
+pub record Seen (t : List ℕ) (all : Bool) (j : ℕ) : Type 0 where
   pub below : j ≤ length t
-  pub is : printable t ≡ printable (drop j t)
+  pub is : printable t ≡ pick all (printable (drop j t)) false
 
-pub seen-none : (t : List ℕ) → Seen t 0
+pub seen-none : (t : List ℕ) → Seen t true 0
 seen-none t = record { below = omega arith; is = refl }
 
-printable-at : (t : List ℕ) (j : ℕ) → j < length t → plain (getD t j 0) ≡ true → printable (drop j t) ≡ printable (drop (j + 1) t)
+printable-at : (t : List ℕ) (j : ℕ) → j < length t
+    → printable (drop j t) ≡ pick (plain (getD t j 0)) (printable (drop (j + 1) t)) false
 unfolding printable
-printable-at t j h e = rw (drop-cons t j 0 h, e, add-one j)
+printable-at t j h = rw (drop-cons t j 0 h, add-one j)
 
-pub seen-more : {t : List ℕ} {j : ℕ} → Seen t j → j < length t → plain (getD t j 0) ≡ true → Seen t (j + 1)
-seen-more {t} {j} s h e = record { below = omega arith; is = s .is ∙ printable-at t j h e }
+next-byte : (a b c : Bool) → pick a (pick b c false) false ≡ pick (a && b) c false
+next-byte true b c = refl
+next-byte false b c = refl
 
-pub seen-bad : {t : List ℕ} {j : ℕ} → Seen t j → j < length t → plain (getD t j 0) ≡ false → false ≡ printable t
+pub seen-more : {t : List ℕ} {all p : Bool} {j : ℕ} → Seen t all j → j < length t → p ≡ plain (getD t j 0)
+    → Seen t (all && p) (j + 1)
+seen-more {t} {all} {p} {j} s h e =
+    record {
+      below = omega arith;
+      is = s .is
+          ∙ ap (λ (b : Bool). pick all b false) (printable-at t j h)
+          ∙ next-byte all (plain (getD t j 0)) (printable (drop (j + 1) t))
+          ∙ ap (λ (b : Bool). pick (all && b) (printable (drop (j + 1) t)) false) (sym e);
+    }
+
+pub seen-done : {t : List ℕ} {all : Bool} {j : ℕ} → Seen t all j → length t ≤ j → all ≡ printable t
 unfolding printable
-seen-bad {t} {j} s h e = sym (s .is ∙ rw (drop-cons t j 0 h, e))
-
-pub seen-done : {t : List ℕ} {j : ℕ} → Seen t j → length t ≤ j → true ≡ printable t
-unfolding printable
-seen-done {t} {j} s h = let e : j ≡ length t = omega arith in sym (s .is ∙ rw (e, drop-length t))
+seen-done {t} {all} {j} s h = let e : j ≡ length t = omega arith in sym (s .is ∙ rw (e, drop-length t) (said all))
+  where
+    said : (b : Bool) → pick b true false ≡ b
+    said true = refl
+    said false = refl

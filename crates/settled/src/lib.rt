@@ -28,19 +28,17 @@ fn plain(byte: u8) -> bool
     base::within(0x20, 0x7E, byte as u16)
 }
 
-// Whether each byte is from 20h to 7Eh.
+// Whether each byte is from 20h to 7Eh. All are looked at, which lets several be looked at at once.
 fn printable(text: &[u8]) -> bool
     ensures { λ r. ⌜ r ≡ printable (now (text .entry)) ⌝ }
 {
+    let mut all = true;
     let mut seen = 0;
     while seen < text.len() {
-        if plain(text[seen]) {
-            seen += 1;
-        } else {
-            return false;
-        }
+        all = all & plain(text[seen]);
+        seen += 1;
     }
-    true
+    all
 }
 
 impl Identity {

@@ -50,7 +50,10 @@ transferFits s (TakingPassword b) = passwordFits (s .security) (b .purpose)
 unfoldable pub heldFits : Hot → Bool
 heldFits h = pick (h .signals .held) (isIdle (h .transfer)) true
 
--- all clauses but those on DEV
-unfoldable pub diskFits : Face → Bool
-diskFits f =
-    pick (settledFits (f .settled)) (pick (heldFits (f .hot)) (transferFits (f .settled) (f .hot .transfer)) false) false
+-- all clauses but those on DEV, none of which asks for the buffer
+unfoldable pub partsFit : Settled → Hot → Bool
+partsFit s h = pick (settledFits s) (pick (heldFits h) (transferFits s (h .transfer)) false) false
+
+-- the same of a face
+abbrev pub diskFits : Face → Bool
+diskFits f = partsFit (f .settled) (f .hot)

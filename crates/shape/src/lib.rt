@@ -1,8 +1,7 @@
 // The clauses of a disk's shape, whichever device of its cable is selected: nothing here looks at DEV.
 ghost use mathlib.Core.Path.{_≡_};
-ghost use Rattle.shape.specs.Shape.{runFits, passwordFits, transferFits, heldFits, diskFits};
+ghost use Rattle.shape.specs.Shape.{runFits, passwordFits, transferFits, heldFits, partsFit};
 use address::Address;
-use face::Face;
 use face::Hot;
 use face::Run;
 use face::Transfer;
@@ -71,11 +70,9 @@ fn held_fits(hot: Hot) -> bool
 }
 
 // The clauses of answer 2, but for DEV.
-pub fn fits(face: Face) -> bool
-    ensures { λ r. ⌜ r ≡ diskFits face ⌝ }
+pub fn fits(settled: Settled, hot: Hot) -> bool
+    ensures { λ r. ⌜ r ≡ partsFit settled hot ⌝ }
 {
-    let settled = face.settled;
-    let hot = face.hot;
     let transfer = hot.transfer;
     if settled.fits() {
         if held_fits(hot) {

@@ -17,6 +17,7 @@ use Rattle.face.specs.Face.{withHot}
 use Rattle.face.specs.Ends.{finishOf, abortOf, endedAt, idnfOf}
 use Rattle.face.specs.declared.Registers.{Registers}
 use Rattle.face.specs.declared.Run.{Run}
+use Rattle.face.specs.declared.Hot.{Hot}
 use Rattle.face.specs.declared.Face.{Face}
 
 -- the lent memory is this disk's: "sector memory is exactly 512 x capacity bytes"; and the translation is one that 91h allows
@@ -57,5 +58,9 @@ abbrev pub endedWell : Face → AddressRegisters → Face
 endedWell f at = withHot f (finishOf (endedAt (f .hot) at 0))
 
 -- "Error 10h, Status 51h, the bad address, and the sectors left including it, 256 shown as 00h"
+abbrev pub missedOf : Hot → Run → Hot
+missedOf h r = idnfOf h (r .at) ((r .after + 1) % 256)
+
+-- the same of a face
 unfoldable pub notFoundOf : Face → Run → Face
-notFoundOf f r = withHot f (idnfOf (f .hot) (r .at) ((r .after + 1) % 256))
+notFoundOf f r = withHot f (missedOf (f .hot) r)

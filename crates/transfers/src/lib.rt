@@ -1,12 +1,13 @@
 // What reading and writing share: the sector that an address names, runs of sectors, how commands end, and the data words of the buffer.
 ghost use mathlib.Core.Path.{_≡_};
 ghost use Prim.Native.Nat.{_<_};
-ghost use Rattle.transfers.specs.Sectors.{located, afterOf, firstRun, nextRun, abortFace, finishFace, endedWell, notFoundOf};
+ghost use Rattle.transfers.specs.Sectors.{located, afterOf, firstRun, nextRun, abortFace, finishFace, endedWell, missedOf, notFoundOf};
 ghost use Rattle.transfers.specs.Words.{told, noTransfer, readBufferWord, bufferWord, wordIn, writeBufferWord};
 use address::Address;
 use address::AddressRegisters;
 use face::Answer;
 use face::Face;
+use face::Hot;
 use face::Registers;
 use face::Run;
 use face::Transfer;
@@ -97,13 +98,20 @@ pub fn ended_well(face: Face, at: AddressRegisters) -> Face
 }
 
 // A bad address ends a sector command: the address, and the sectors left including it, 256 shown as 00h.
+pub fn missed(hot: Hot, run: Run) -> Hot
+    ensures { λ r. ⌜ r ≡ missedOf hot run ⌝ }
+{
+    let at = run.at;
+    let left = ((run.after as u16 + 1) % 256) as u8;
+    hot.ended_at(at, left).fail(0x10)
+}
+
+// The same of the face.
 pub fn not_found(face: Face, run: Run) -> Face
     ensures { λ r. ⌜ r ≡ notFoundOf face run ⌝ }
 {
     let hot = face.hot;
-    let at = run.at;
-    let left = ((run.after as u16 + 1) % 256) as u8;
-    face.with_hot(hot.ended_at(at, left).fail(0x10))
+    face.with_hot(missed(hot, run))
 }
 
 // A data word with no transfer that way.

@@ -1,18 +1,17 @@
--- As long as all bytes seen are printable, the rest decides.
+-- After each turn `all` says whether the bytes so far are printable; the rest decides with it.
 use Prim.Native.Nat.{_-_}
-use Rattle.settled.proofs.Printing.{Seen, seen-bad, seen-done, seen-more, seen-none}
+use Rattle.settled.proofs.Printing.{Seen, seen-done, seen-more, seen-none}
 use borrow.Author.Needs.{needs}
 use lib.ListN.{length}
-use mathlib.Core.Path.{_∙_, sym}
 use native.Mathlib.Omega.{arith}
 use Rattle.settled.proofs.printable.Statement.{statement}
 use Rattle.settled.proofs.printable.Tie as tie
 
 abbrev Inv-loop : tie.InvT-loop
-Inv-loop text seen₀ seen = Seen text seen
+Inv-loop text all₀ seen₀ all seen = Seen text all seen
 
 abbrev μ-loop : tie.MeasureT-loop
-μ-loop text seen₀ seen = length text - seen
+μ-loop text all₀ seen₀ all seen = length text - seen
 
 loop-holds : tie.Need-loop-holds Inv-loop μ-loop
 loop-holds c = seen-none _
@@ -30,13 +29,10 @@ loop-less : tie.Need-loop-less Inv-loop μ-loop
 loop-less c = search needs
 
 loop-again : tie.Need-loop-again Inv-loop μ-loop
-loop-again c = seen-more (c .before .before .before .before .loop .inv) (omega arith) (sym (c .before .plain .ensures) ∙ c .if1 .taken)
+loop-again c = seen-more (c .before .before .before .loop .inv) (omega arith) (c .plain .ensures)
 
 returns : tie.Need-returns Inv-loop μ-loop
-returns c = seen-bad (c .before .before .before .before .loop .inv) (omega arith) (sym (c .before .plain .ensures) ∙ c .if1 .left)
-
-returns-2 : tie.Need-returns-2 Inv-loop μ-loop
-returns-2 c = seen-done (c .before .loop .inv) (omega arith)
+returns c = seen-done (c .before .loop .inv) (omega arith)
 
 pub printable-spec : {M : Type 1} → statement M
 printable-spec =
@@ -50,5 +46,4 @@ printable-spec =
     add-seen
     loop-less
     loop-again
-    returns
-    returns-2)
+    returns)
