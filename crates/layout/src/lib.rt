@@ -457,7 +457,7 @@ fn put_numbers(state: &mut [u8], settled: Settled)
 
 fn put_serial(state: &mut [u8], at: usize, serial: [u8; 20])
     requires { ⌜ at + 20 ≤ length (now state) ⌝ }
-    ensures { λ _. ⌜ now (state .exit) ≡ sets (now (state .entry)) at serial ⌝ }
+    ensures { λ _. ⌜ (now (state .exit) ≡ sets (now (state .entry)) at serial) × (length serial ≡ 20) ⌝ }
 {
     let mut put = 0;
     while put < 20 {
@@ -468,7 +468,7 @@ fn put_serial(state: &mut [u8], at: usize, serial: [u8; 20])
 
 fn put_firmware(state: &mut [u8], at: usize, firmware: [u8; 8])
     requires { ⌜ at + 8 ≤ length (now state) ⌝ }
-    ensures { λ _. ⌜ now (state .exit) ≡ sets (now (state .entry)) at firmware ⌝ }
+    ensures { λ _. ⌜ (now (state .exit) ≡ sets (now (state .entry)) at firmware) × (length firmware ≡ 8) ⌝ }
 {
     let mut put = 0;
     while put < 8 {
@@ -479,7 +479,7 @@ fn put_firmware(state: &mut [u8], at: usize, firmware: [u8; 8])
 
 fn put_model(state: &mut [u8], at: usize, model: [u8; 40])
     requires { ⌜ at + 40 ≤ length (now state) ⌝ }
-    ensures { λ _. ⌜ now (state .exit) ≡ sets (now (state .entry)) at model ⌝ }
+    ensures { λ _. ⌜ (now (state .exit) ≡ sets (now (state .entry)) at model) × (length model ≡ 40) ⌝ }
 {
     let mut put = 0;
     while put < 40 {
@@ -490,7 +490,7 @@ fn put_model(state: &mut [u8], at: usize, model: [u8; 40])
 
 fn put_password(state: &mut [u8], at: usize, password: [u8; 32])
     requires { ⌜ at + 32 ≤ length (now state) ⌝ }
-    ensures { λ _. ⌜ now (state .exit) ≡ sets (now (state .entry)) at password ⌝ }
+    ensures { λ _. ⌜ (now (state .exit) ≡ sets (now (state .entry)) at password) × (length password ≡ 32) ⌝ }
 {
     let mut put = 0;
     while put < 32 {
@@ -501,7 +501,8 @@ fn put_password(state: &mut [u8], at: usize, password: [u8; 32])
 
 fn put_identity(state: &mut [u8], identity: Identity)
     requires { ⌜ length (now state) ≡ 163 ⌝ }
-    ensures { λ _. ⌜ now (state .exit) ≡ sets (sets (sets (now (state .entry)) 31 (identity .serial)) 51 (identity .firmware)) 59 (identity .model) ⌝ }
+    ensures { λ _. ⌜ (now (state .exit) ≡ sets (sets (sets (now (state .entry)) 31 (identity .serial)) 51 (identity .firmware)) 59 (identity .model))
+        × ((length (identity .serial) ≡ 20) × ((length (identity .firmware) ≡ 8) × (length (identity .model) ≡ 40))) ⌝ }
 {
     let serial = identity.serial;
     let firmware = identity.firmware;
@@ -513,7 +514,8 @@ fn put_identity(state: &mut [u8], identity: Identity)
 
 fn put_secrets(state: &mut [u8], secrets: Secrets)
     requires { ⌜ length (now state) ≡ 163 ⌝ }
-    ensures { λ _. ⌜ now (state .exit) ≡ sets (sets (now (state .entry)) 99 (secrets .user)) 131 (secrets .master) ⌝ }
+    ensures { λ _. ⌜ (now (state .exit) ≡ sets (sets (now (state .entry)) 99 (secrets .user)) 131 (secrets .master))
+        × ((length (secrets .user) ≡ 32) × (length (secrets .master) ≡ 32)) ⌝ }
 {
     let user = secrets.user;
     let master = secrets.master;

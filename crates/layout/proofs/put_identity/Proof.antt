@@ -16,7 +16,10 @@ same-length : tie.Need-same-length
 same-length c = search needs
 
 returns : tie.Need-returns
-returns c = rw (c .before .before .put-model .ensures, c .before .before .before .before .before .before .put-firmware .ensures, c .before .before .before .before .before .before .before .before .before .before .put-serial .ensures)
+returns c = (
+  rw (c .before .before .put-model .ensures .0, c .before .before .before .before .before .before .put-firmware .ensures .0, c .before .before .before .before .before .before .before .before .before .before .put-serial .ensures .0),
+  (c .before .before .before .before .before .before .before .before .before .before .put-serial .ensures .1, (c .before .before .before .before .before .before .put-firmware .ensures .1, c .before .before .put-model .ensures .1)),
+)
 
 pub put-identity-spec : {M : Type 1} → statement M
 put-identity-spec =

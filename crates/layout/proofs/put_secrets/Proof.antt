@@ -13,7 +13,7 @@ same-length : tie.Need-same-length
 same-length c = search needs
 
 returns : tie.Need-returns
-returns c = rw (c .before .before .put-password2 .ensures, c .before .before .before .before .before .before .put-password .ensures)
+returns c = (rw (c .before .before .put-password2 .ensures .0, c .before .before .before .before .before .before .put-password .ensures .0), (c .before .before .before .before .before .before .put-password .ensures .1, c .before .before .put-password2 .ensures .1))
 
 pub put-secrets-spec : {M : Type 1} → statement M
 put-secrets-spec =
