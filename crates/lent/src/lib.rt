@@ -1,0 +1,146 @@
+// The host's calls over a device as lent bytes: setup, and any action, with every refusal.
+ghost use mathlib.Core.Path.{_≡_};
+ghost use lib.ListN.{length};
+ghost use lib.Seq.{sets};
+ghost use Rattle.face.specs.Reads.{numberOf, valueOf};
+ghost use Rattle.device.specs.Alone.{aloneOf};
+ghost use Rattle.layout.specs.Stored.{deviceStored};
+ghost use Rattle.layout.specs.Bytes.{hotBytes};
+ghost use Rattle.lent.specs.Lent.{replyOf, Admitted, admissionOf, lentOf, lentStep, Gives};
+ghost use Rattle.lent.specs.Setup.{zeroLent, lentSetup, Sets};
+use device::Device;
+use face::Action;
+use face::Answer;
+use face::Quick;
+use face::Seen;
+
+// The answer's number, and its value.
+#[repr(C)]
+pub struct Reply {
+    pub answer: u32,
+    pub value: u32,
+}
+
+pub fn answered(number: u8, value: u32) -> Reply
+    ensures { λ r. ⌜ r ≡ replyOf number value ⌝ }
+{
+    Reply {
+        answer: number as u32,
+        value,
+    }
+}
+
+pub fn refused(answer: Answer) -> Reply
+    ensures { λ r. ⌜ r ≡ replyOf (numberOf answer) 0 ⌝ }
+{
+    answered(answer.number(), 0)
+}
+
+// Whether a call goes on: Done, or why it is turned away.
+pub fn admission(state: &[u8], sectors: &[u8]) -> Answer
+    ensures { λ r. ⌜ r ≡ admissionOf (now (state .entry)) (now (sectors .entry)) ⌝ }
+{
+    if layout::formed(state) {
+        let settled = layout::settled_at(state);
+        let geometry = settled.geometry;
+        let hot = layout::hot_at(state);
+        if device::fits(settled, hot) {
+            if sectors.len() == 512 * (geometry.capacity() as usize) {
+                return Answer::Done;
+            }
+            return Answer::WrongLength;
+        }
+        return Answer::OutOfShape;
+    }
+    Answer::OutOfShape
+}
+
+// An action the long way: the whole device comes out of its bytes and goes back.
+pub fn act(state: &mut [u8], buffer: &mut [u8; 512], action: Action, sectors: &mut [u8]) -> Reply
+    requires { ⌜ Admitted (now state) (now buffer) (now sectors) ⌝ }
+    ensures { λ r. ⌜ Gives (lentOf (aloneOf (deviceStored (now (state .entry)) (now (buffer .entry))) (now (sectors .entry)) action)) r (now (state .exit)) (now (buffer .exit)) (now (sectors .exit)) ⌝ }
+{
+    let device = layout::device_at(state, buffer);
+    let outcome = device.act(action, sectors);
+    let number = outcome.number;
+    let value = outcome.value as u32;
+    layout::put_device(state, buffer, outcome.device);
+    answered(number, value)
+}
+
+// What the fast path settled: only the hot part goes back.
+fn settle(state: &mut [u8], seen: Seen) -> Reply
+    requires { ⌜ length (now state) ≡ 163 ⌝ }
+    ensures { λ r. ⌜ (r ≡ replyOf (numberOf (seen .answer)) (valueOf (seen .answer) (seen .value))) × (now (state .exit) ≡ sets (now (state .entry)) 0 (hotBytes (seen .hot))) ⌝ }
+{
+    let hot = seen.hot;
+    let answer = seen.answer;
+    let value = face::value_of(answer, seen.value) as u32;
+    layout::put_hot(state, hot);
+    answered(answer.number(), value)
+}
+
+// The same action, by the fast path where it settles it.
+fn step(state: &mut [u8], buffer: &mut [u8; 512], action: Action, sectors: &mut [u8]) -> Reply
+    requires { ⌜ Admitted (now state) (now buffer) (now sectors) ⌝ }
+    ensures { λ r. ⌜ Gives (lentOf (aloneOf (deviceStored (now (state .entry)) (now (buffer .entry))) (now (sectors .entry)) action)) r (now (state .exit)) (now (buffer .exit)) (now (sectors .exit)) ⌝ }
+{
+    let hot = layout::hot_at(state);
+    match fastpath::quick(hot, buffer, action) {
+        Quick::Settles(seen) => settle(state, seen),
+        Quick::Slow => act(state, buffer, action, sectors),
+    }
+}
+
+// Any host action on any lent bytes over any memory.
+pub fn host(state: &mut [u8], buffer: &mut [u8; 512], action: Action, sectors: &mut [u8]) -> Reply
+    ensures { λ r. ⌜ Gives (lentStep (now (state .entry)) (now (buffer .entry)) (now (sectors .entry)) action) r (now (state .exit)) (now (buffer .exit)) (now (sectors .exit)) ⌝ }
+{
+    let answer = admission(state, sectors);
+    match answer {
+        Answer::Done => step(state, buffer, action, sectors),
+        Answer::NoRegister => refused(answer),
+        Answer::OutOfShape => refused(answer),
+        Answer::WrongLength => refused(answer),
+        Answer::NoTransfer => refused(answer),
+        Answer::SetupRefused => refused(answer),
+    }
+}
+
+// State and buffer become all zero: what a refused setup hands back.
+fn refuse_setup(state: &mut [u8], buffer: &mut [u8; 512]) -> Reply
+    ensures { λ r. ⌜ Sets (zeroLent (now (state .entry))) r (now (state .exit)) (now (buffer .exit)) ⌝ }
+{
+    block::zero(state);
+    *buffer = block::zeros();
+    refused(Answer::SetupRefused)
+}
+
+// Setup: state and buffer become a disk's just powered on, or all zero where it is refused.
+pub fn setup(
+    state: &mut [u8],
+    buffer: &mut [u8; 512],
+    cylinders: u16,
+    heads: u8,
+    sectors: u8,
+    identity: &[u8],
+    master: &[u8],
+) -> Reply
+    ensures { λ r. ⌜ Sets (lentSetup (now (state .entry)) (now (buffer .entry)) cylinders heads sectors (now (identity .entry)) (now (master .entry))) r (now (state .exit)) (now (buffer .exit)) ⌝ }
+{
+    if state.len() == 163 {
+        if identity.len() == 68 {
+            if master.len() == 32 {
+                let i = layout::identity_at(identity, 0);
+                let p = layout::password_at(master, 0);
+                let outcome = Device::setup(cylinders, heads, sectors, i, p);
+                let number = outcome.number;
+                layout::put_device(state, buffer, outcome.device);
+                return answered(number, 0);
+            }
+            return refuse_setup(state, buffer);
+        }
+        return refuse_setup(state, buffer);
+    }
+    refused(Answer::OutOfShape)
+}
