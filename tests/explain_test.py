@@ -7,6 +7,7 @@ ROOT = pathlib.Path(__file__).resolve().parent.parent
 sys.path.insert(0, str(ROOT / "tools"))
 from sessions import form, papers  # noqa: E402
 from sessions.explain import explain  # noqa: E402
+from sessions.follow import Follower  # noqa: E402
 from sessions.form import BadInput  # noqa: E402
 from sessions.text import parse  # noqa: E402
 
@@ -127,9 +128,9 @@ class Explaining(unittest.TestCase):
                           "7-8 read word x 2 -> answer 4: no transfer that way", '10-15 read 6 words -> "letters" 0005h x 2'])
 
     def test_blocks_stand_apart(self):
-        lines = lines_of("write command 20", "512 word -> 1111")
-        self.assertEqual([" ".join(line.split()) for line in lines[1:]],
-                         ["2-257 read 256 words -> 1111h x 256", "258-513 read 256 words -> 1111h x 256"])
+        for lines in (["write command 20", "512 word -> 1111"], ["line -> 0", "512 word -> 1111"]):
+            self.assertEqual([" ".join(line.split()) for line in lines_of(*lines)[1:]],
+                             ["2-257 read 256 words -> 1111h x 256", "258-513 read 256 words -> 1111h x 256"])
 
     def test_long_blocks_by_places(self):
         lines = lines_of("write command 20", f'get-block -> 4="{"x y" * 20}" 100=0001 101=8002 255=FFFF')
@@ -160,9 +161,11 @@ class Explaining(unittest.TestCase):
 
     def test_without_a_reply(self):
         self.assertEqual(explain(b"\x01"), (["no records"], 0))
-        recording = parse("write command EC\nget-block\nput 0001 0002\n", "NAME.txt", strict=False).recording
+        text = "write device-head 10\nwrite command EC\nget-block\nput 0001 0002\n"
+        recording = parse(text, "NAME.txt", strict=False).recording
         self.assertEqual([" ".join(line.split()) for line in explain(recording)[0]],
-                         ["1 write Command ECh IDENTIFY", "2-257 read 256 words", "258-259 write 2 words: 0001h 0002h"])
+                         ["1 write Device-Head 10h DEV head nibble 0", "2 write Command ECh IDENTIFY", "3-258 read 256 words",
+                          "259-260 write 2 words: 0001h 0002h"])
 
 
 class Expecting(unittest.TestCase):
@@ -220,12 +223,23 @@ class Identify(unittest.TestCase):
         self.assertIn("words 23-26    firmware revision: 0000h 2020h 2020h 2020h",
                       told("write command EC", "get-block -> identify 23=0000"))
 
+    def test_numbers_have_their_low_word_first(self):
+        self.assertIn("words 60-61    0040h 0001h  capacity in sectors: 65600", told("write command EC", "get-block -> identify 61=0001"))
+
     def test_a_later_block_is_told_by_what_differs(self):
         again = ["write command EC", "get-block -> identify 54=0008 128=0009 200=0001"]
         lines = lines_of("write command EC", "get-block -> identify", *again)
         self.assertEqual([" ".join(line.split()) for line in lines[-5:]],
                          ["259-514 read words 0-255 of IDENTIFY -> as follows", "word 54 0008h current cylinders: 8",
                           "word 128 0009h lock state: supported, frozen, level High", "word 200 0001h", "all others as in record 2"])
+        lines = lines_of("write command EC", "get-block -> identify", "write command EC", "get-block -> identify")
+        self.assertEqual([" ".join(line.split()) for line in lines[-2:]],
+                         ["word 128 0001h lock state: supported, level High", "all others as in record 2"])
+
+    def test_a_block_without_answers_is_not_told_before(self):
+        text = "write command EC\nget-block\nwrite command EC\nget-block -> identify\n"
+        made = parse(text, "NAME.txt", strict=False)
+        self.assertRegex(explain(made.recording, None, made.steps)[0][-1], r"all others +0000h$")
 
     def named(self, *lines):
         """Whether the next word is named; the line between keeps it apart from those before it."""
@@ -254,6 +268,21 @@ class Identify(unittest.TestCase):
                 lines = lines_of(*lines, "write command EC", "word -> 0040")
                 self.assertIn("ignored: DEV is set", lines[-2])
                 self.assertNotIn("of IDENTIFY", lines[-1])
+
+    def test_what_is_named_in_the_corpus_is_identify(self):
+        changing = {54, 55, 56, 57, 58, papers.LOCK_WORD}
+        named = 0
+        for path in sorted((ROOT / "recordings").glob("*.rec")):
+            follower = Follower()
+            steps = form.replies(path.with_suffix(".reply").read_bytes())
+            for payload, step in zip(form.records(path.read_bytes())[0], steps):
+                answer, value = form.answer_of(step)
+                if payload[0] == form.READ_WORD and answer == 0 and follower.identifies:
+                    named += 1
+                    if follower.place not in changing:
+                        self.assertEqual(value, papers.FRESH_IDENTIFY.get(follower.place, 0), path.name)
+                follower.step(payload, (answer, value))
+        self.assertGreater(named, 10_000)
 
 
 class Ignored(unittest.TestCase):

@@ -266,7 +266,8 @@ class BackToText(unittest.TestCase):
     def test_lines_that_a_person_would_write(self):
         whole = ["write 2-6 02 0A 00 00 E0", "write command F1", 'put-password master maximum "pay day" rest FFFF',
                  "run 20 -> 51 04", "3 read status -> 50", "256 put 9876", "write command EC", "get-block -> identify 128=0007",
-                 "read 9-255 -> answer 1", "write 0 00 -> answer 1", "3 word -> answer 4", 'get-block -> 0="a text" 100-199=FFFF',
+                 "read 9-255 -> answer 1", "write 0 00 -> answer 1", "write command F2", 'put-block 0=0001 1="pay" 40=0001',
+                 "3 word -> answer 4", 'get-block -> 0="a text" 100-199=FFFF',
                  'put-block 3=0001 16="another, of odd length."', '5 word -> 0001 "letters"', "put 0001 0002", "2 hardware-reset",
                  "line -> 1", "power-on", "write device-control 04", "raw 00 03 09 00 19", "-> fault", "line", "raw 00"]
         self.assertEqual(self.lines(*whole), whole)

@@ -146,7 +146,7 @@ def put_line(number, tokens, same):
 
 def word_line(number, tokens, same):
     """A count before word says how many values there are; it repeats the line only where that is one."""
-    if same or number == 1:
+    if same:
         return Line(f"word -> {tokens}", number)
     return Line(f"{number} word -> {tokens}", None)
 
@@ -298,7 +298,7 @@ def all_lines(recording, steps):
 def fold(lines):
     folded = []
     for line in lines:
-        if folded and line.count and folded[-1].count and (line.body, line.comment) == (folded[-1].body, folded[-1].comment):
+        if folded and line.count and (line.body, line.comment) == (folded[-1].body, folded[-1].comment):
             folded[-1] = line._replace(count=folded[-1].count + line.count)
         else:
             folded.append(line)
