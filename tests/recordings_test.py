@@ -1,6 +1,7 @@
 """Tests of tools/recordings.py: its command line, what make and check do with a folder, and the corpus itself."""
 import contextlib
 import io
+import os
 import pathlib
 import sys
 import tempfile
@@ -60,7 +61,7 @@ class CommandLine(Folder):
         self.assertEqual(run("write", self.text, self.recording), (0, b"", ""))
         self.assertEqual(self.recording.read_bytes(), self.RECORDING)
         self.assertEqual(run("write", self.text), (0, self.RECORDING, ""))
-        self.assertEqual(run("write", "-", given=b"read status\nwrite command EC\nword # \xc3\xa4\n"), (0, self.RECORDING, ""))
+        self.assertEqual(run("write", "-", given=b"\xef\xbb\xbfread status\nwrite command EC\nword # \xc3\xa4\n"), (0, self.RECORDING, ""))
 
     def test_read_alone_with_a_reply_and_with_a_program(self):
         code, out, _ = run("read", self.recording)
@@ -68,6 +69,9 @@ class CommandLine(Folder):
         with_reply = run("read", self.recording, self.reply)
         self.assertEqual(with_reply[1].decode().splitlines()[1::2], ["read status -> 50", "word -> 0040"])
         self.assertEqual(run("read", self.recording, self.program("")), with_reply)
+        self.addCleanup(os.chdir, os.getcwd())
+        os.chdir(self.home)
+        self.assertEqual(run("read", "guest.rec", "program"), with_reply)
         self.assertEqual(run("read", "-", self.reply, given=self.RECORDING), with_reply)
 
     def test_what_read_gives_is_good_for_make_and_check(self):

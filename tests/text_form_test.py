@@ -245,7 +245,7 @@ class BackToText(unittest.TestCase):
 
     def test_any_bytes(self):
         generator = Generator(1)
-        for number, kind in [(400, generator.noise), (60, generator.records), (150, generator.damaged)]:
+        for number, kind in [(300, generator.noise), (40, generator.records), (100, generator.damaged)]:
             for _ in range(number):
                 recording = kind()
                 with self.subTest(recording=recording[:200].hex()):

@@ -40,7 +40,7 @@ def read_bytes(path):
 
 def read_session(path):
     name = "standard input" if path == "-" else path
-    return parse(decode(read_bytes(path), name, "utf-8"), name, strict=False)
+    return parse(decode(read_bytes(path), name, "utf-8-sig"), name, strict=False)
 
 
 def reply_of(other, recording):

@@ -194,7 +194,7 @@ def decode(data, name, encoding):
         return data.decode(encoding)
     except UnicodeDecodeError as reason:
         line = data[:reason.start].count(b"\n") + 1
-        kind = {"ascii": "plain ASCII", "utf-8": "UTF-8"}[encoding]
+        kind = {"ascii": "plain ASCII", "utf-8-sig": "UTF-8"}[encoding]
         raise BadInput(f"{name}:{line}: the text is not {kind}") from None
 
 
