@@ -17,7 +17,7 @@ replay:
 	@tools/install.sh python3
 	@$(PROGRAMS) && build_replay
 	@sed -n '1s/^# */$(notdir $(RECORDING)): /p' $(basename $(RECORDING)).txt 2>/dev/null || true
-	@$(PROGRAMS) && tools/recordings.py show $(RECORDING) $$replay
+	@$(PROGRAMS) && tools/recordings.py explain $(RECORDING) $$replay
 
 test:
 	@tests/gate.sh

@@ -52,7 +52,7 @@ rust_told() {
 }
 
 recordings() {
-    python3 -m unittest --quiet tests/recordings_test.py && tools/recordings.py check "$replay" "$second"
+    python3 -m unittest --quiet tests/*_test.py && tools/recordings.py check "$replay" "$second"
 }
 
 # One seed, so that a gate that passed passes again; make soak takes others.

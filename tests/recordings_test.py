@@ -1,140 +1,162 @@
-"""Tests of tools/recordings.py: the text form, check's findings, and what show prints."""
+"""Tests of tools/recordings.py: its command line, what make and check do with a folder, and the corpus itself."""
 import contextlib
-import importlib.util
 import io
+import os
 import pathlib
 import sys
 import tempfile
 import unittest
+from unittest import mock
 
 ROOT = pathlib.Path(__file__).resolve().parent.parent
-SPEC = importlib.util.spec_from_file_location("recordings", ROOT / "tools" / "recordings.py")
-recordings = importlib.util.module_from_spec(SPEC)
-SPEC.loader.exec_module(recordings)
+sys.path.insert(0, str(ROOT / "tools"))
+import recordings  # noqa: E402
+from sessions import corpus, form, papers  # noqa: E402
 
 
-def entry(*lines):
-    return recordings.parse("\n".join(["# what it shows", *lines]) + "\n", "NAME.txt")
+def run(*arguments, given=b""):
+    """Exit status, standard output as bytes, standard error."""
+    out, err = io.TextIOWrapper(io.BytesIO()), io.StringIO()
+    with contextlib.redirect_stdout(out), contextlib.redirect_stderr(err), \
+            mock.patch("sys.stdin", io.TextIOWrapper(io.BytesIO(given))):
+        try:
+            code = recordings.main([str(argument) for argument in arguments])
+        except SystemExit as end:
+            code = end.code
+    out.flush()
+    return code, out.buffer.getvalue(), err.getvalue()
 
 
-def run(*arguments):
-    out, err = io.StringIO(), io.StringIO()
-    with contextlib.redirect_stdout(out), contextlib.redirect_stderr(err):
-        code = recordings.main([str(argument) for argument in arguments])
-    return code, out.getvalue(), err.getvalue()
-
-
-class TextForm(unittest.TestCase):
-    def bytes_of(self, *lines):
-        made = entry(*lines)
-        return made.recording.hex(" "), made.reply.hex(" ")
-
-    def test_whole_case_of_document_01(self):
-        self.assertEqual(self.bytes_of("read status -> 50"), ("01 00 02 01 07", "01 00 03 00 00 50"))
-
-    def test_every_kind(self):
-        made = entry("write command 20", "word -> 1234", "put 5678", "hardware-reset", "power-on", "line -> 1")
-        self.assertEqual(made.recording.hex(),
-                         "01" "0003020720" "000103" "0003045678" "000105" "000106" "000107")
-        self.assertEqual(made.reply.hex(), "01" "0003000000" "0003001234" + "0003000000" * 3 + "0003000001")
-
-    def test_names_differ_by_direction(self):
-        self.assertEqual(self.bytes_of("write features 05")[0], "01 00 03 02 01 05")
-        self.assertEqual(self.bytes_of("read error -> 05")[0], "01 00 02 01 01")
-        for line in ("write status 00", "read command -> 00", "read device-control -> 00"):
-            with self.assertRaises(recordings.BadText):
-                entry(line)
-
-    def test_other_answers(self):
-        self.assertEqual(self.bytes_of("write 9 00 -> answer 1")[1], "01 00 03 01 00 00")
-        self.assertEqual(self.bytes_of("2 word -> answer 4")[1], "01" + " 00 03 04 00 00" * 2)
-
-    def test_ranges(self):
-        self.assertEqual(entry("write 2-4 01 02 03").recording,
-                         entry("write 2 01", "write 3 02", "write 4 03").recording)
-        self.assertEqual(entry("read 1-2 -> AA BB").reply, entry("read 1 -> AA", "read 2 -> BB").reply)
-        self.assertEqual(len(entry("read 9-255 -> answer 1").lines), 247)
-
-    def test_run_is_command_status_error(self):
-        spelled = entry("write command 20", "read status -> 51", "read error -> 04")
-        self.assertEqual(entry("run 20 -> 51 04").recording, spelled.recording)
-        self.assertEqual(entry("run 20 -> 51 04").reply, spelled.reply)
-
-    def test_blocks(self):
-        made = entry('put-block 0=0001 2-3=ABCD 5="abc"')
-        words = [made.recording[i + 3:i + 5].hex() for i in range(1, len(made.recording), 5)]
-        self.assertEqual(words[:8], ["0001", "0000", "abcd", "abcd", "0000", "6261", "0063", "0000"])
-        self.assertEqual((len(words), set(words[8:])), (256, {"0000"}))
-
-    def test_password_block(self):
-        self.assertEqual(entry('put-password master maximum "pay" rest FFFF').recording,
-                         entry('put-block 0=0101 1="pay" 17-255=FFFF').recording)
-        self.assertEqual(entry('put-password user high "pay" words 0-1').recording,
-                         entry("put 0000", "put 6170").recording)
-
-    def test_identify_words(self):
-        reply = entry("get-block -> identify 128=0007").reply
-        word = {place: reply[1 + 5 * place + 3:1 + 5 * place + 5].hex() for place in range(256)}
-        self.assertEqual([word[place] for place in (0, 1, 3, 6, 10, 46, 47, 57, 83, 128, 255)],
-                         ["0040", "0004", "0002", "0008", "2020", "2020", "0000", "0040", "4000", "0007", "0000"])
-
-    def test_fault_ends_the_reply_and_not_the_recording(self):
-        self.assertEqual(self.bytes_of("read status -> 50", "raw 00 01 08", "-> fault", "line"),
-                         ("01 00 02 01 07 00 01 08 00 01 07", "01 00 03 00 00 50 00 01 05"))
-        self.assertEqual(self.bytes_of("version none", "-> fault"), ("", "01 00 01 05"))
-        self.assertEqual(self.bytes_of("version 02", "-> fault", "line"), ("02 00 01 07", "01 00 01 05"))
-        self.assertEqual(self.bytes_of(), ("01", "01"))
-
-    def test_bad_text_names_file_line_and_reason(self):
-        for line, reason in [
-                ("read status", "needs '->'"), ("read status -> 5", "2 hex digits"), ("word -> 12", "4 hex digits"),
-                ("jump 20", "can't read"), ("write command", "one value"), ("write speed 00", "no register"),
-                ("write 2-6 01 02", "one value"), ("read 1-2 -> 00", "2 values"), ("put 1234 -> 0000", "no such value"),
-                ("word -> answer 2", "1 and 4"), ('put-password user low "x"', "user|master"),
-                (f'put-password user high "{"x" * 33}"', "at most 32"), ("put-block 256=0000", "above 255"),
-                ('put-block 1="x', "quote"), ("line -> 0\nversion 02", "before every record"),
-                ("raw 00", "cut short"), ("raw 00\nline -> 0", "raw bytes"), ("-> fault", "no fault"),
-                ("raw 00 02 01 07\n-> fault", "no fault"), ("raw 00\n-> fault\nline -> 0", "after a fault"),
-                ("raw 00\n-> fault\n-> fault", "first fault"), ("0 line -> 0", "no action")]:
-            with self.subTest(line=line):
-                with self.assertRaises(recordings.BadText) as caught:
-                    entry(line)
-                self.assertRegex(str(caught.exception), r"^NAME\.txt:\d+: ")
-                self.assertIn(reason, str(caught.exception))
-
-    def test_first_line_is_the_one_line(self):
-        self.assertEqual(entry().about, "what it shows")
-        for text in ("", "line -> 0\n", "#\nline -> 0\n"):
-            with self.assertRaises(recordings.BadText):
-                recordings.parse(text, "NAME.txt")
-
-
-class Checking(unittest.TestCase):
+class Folder(unittest.TestCase):
     def setUp(self):
         folder = tempfile.TemporaryDirectory()
         self.addCleanup(folder.cleanup)
         self.home = pathlib.Path(folder.name)
-        (self.home / "good.txt").write_text("# one\nread status -> 50\n\n2 line -> 0\n")
-        (self.home / "torn.txt").write_text("# two\nline -> 0\nraw 00\n-> fault\n")
-        (self.home / "README.md").write_text("prose\n\n")
-        self.assertEqual(run("--home", self.home, "make")[0], 0)
-
-    def check(self, *programs):
-        return run("--home", self.home, "check", *programs)
 
     def program(self, body):
-        """A program with the right replies by heart; body may spoil `reply`."""
+        """A program with the right replies to the folder's texts by heart; body may spoil `reply`."""
         path = self.home / "program"
-        table = {s.recording: s.reply for s in recordings.load(self.home)}
+        table = {session.recording: session.reply for session in corpus.load(self.home)}
         path.write_text(f"#!{sys.executable}\nimport os, sys\ntable = {table!r}\n"
                         f"data = sys.stdin.buffer.read()\nreply = table.get(data, b'')\n{body}\n"
                         "sys.stdout.buffer.write(reply)\n")
         path.chmod(0o755)
         return path
 
+
+class CommandLine(Folder):
+    TEXT = "# a guest\nread status -> 50\nwrite command EC\nword -> 0040\n"
+    RECORDING = bytes.fromhex("01" "00020107" "00030207EC" "000103")
+    REPLY = bytes.fromhex("01" "0003000050" "0003000000" "0003000040")
+
+    def setUp(self):
+        super().setUp()
+        self.text, self.recording, self.reply = (self.home / f"guest{end}" for end in (".txt", ".rec", ".reply"))
+        self.text.write_text(self.TEXT)
+        self.recording.write_bytes(self.RECORDING)
+        self.reply.write_bytes(self.REPLY)
+
+    def test_write_to_a_file_and_to_standard_output(self):
+        self.recording.unlink()
+        self.assertEqual(run("write", self.text, self.recording), (0, b"", ""))
+        self.assertEqual(self.recording.read_bytes(), self.RECORDING)
+        self.assertEqual(run("write", self.text), (0, self.RECORDING, ""))
+        self.assertEqual(run("write", "-", given=b"\xef\xbb\xbfread status\nwrite command EC\nword # \xc3\xa4\n"), (0, self.RECORDING, ""))
+
+    def test_read_alone_with_a_reply_and_with_a_program(self):
+        code, out, _ = run("read", self.recording)
+        self.assertEqual((code, out.decode().splitlines()[1::2]), (0, ["read status", "word"]))
+        with_reply = run("read", self.recording, self.reply)
+        self.assertEqual(with_reply[1].decode().splitlines()[1::2], ["read status -> 50", "word -> 0040"])
+        self.assertEqual(run("read", self.recording, self.program("")), with_reply)
+        self.addCleanup(os.chdir, os.getcwd())
+        os.chdir(self.home)
+        self.assertEqual(run("read", "guest.rec", "program"), with_reply)
+        self.assertEqual(run("read", "-", self.reply, given=self.RECORDING), with_reply)
+
+    def test_what_read_gives_is_good_for_make_and_check(self):
+        for path in (self.text, self.recording, self.reply):
+            path.rename(self.home / f"kept{path.suffix}")
+        self.text.write_bytes(run("read", self.home / "kept.rec", self.home / "kept.reply")[1])
+        self.assertEqual(run("--home", self.home, "make")[:2], (0, b"2 recordings made\n"))
+        self.assertEqual((self.recording.read_bytes(), self.reply.read_bytes()), (self.RECORDING, self.REPLY))
+        self.assertEqual(run("--home", self.home, "check")[0], 0)
+
+    def test_explain_texts_and_recordings(self):
+        with_reply = run("explain", self.recording, self.reply)
+        self.assertEqual((with_reply[0], with_reply[2]), (0, ""))
+        self.assertRegex(with_reply[1].decode(), r"^ +1  read Status +-> 50h DRDY DSC\n +2  .*IDENTIFY +-> done\n +3  .*not removable\n$")
+        self.assertEqual(run("explain", self.text, self.program("")), with_reply)
+        self.assertEqual(run("explain", "-", self.reply, given=self.RECORDING), with_reply)
+        self.assertNotIn(b"->", run("explain", self.recording)[1])
+
+    def test_the_example_of_the_readme(self):
+        prose = (recordings.HOME / "README.md").read_text().partition("### An example\n")[2]
+        text, explained = prose.split("```\n")[1:4:2]
+        self.text.write_text(text)
+        self.assertEqual(run("explain", self.text, self.program("")), (0, explained.encode(), ""))
+
+    def test_explain_counts_what_a_text_did_not_expect(self):
+        self.text.write_text(self.TEXT.replace("50", "51"))
+        code, out, err = run("explain", self.text, self.reply)
+        self.assertEqual((code, err), (1, "answers that are not as the text expects: 1\n"))
+        self.assertIn(b"(the text expects: 51h DRDY DSC ERR)", out)
+
+    def test_bad_text_writes_nothing(self):
+        self.recording.unlink()
+        self.text.write_text("read status\nread speed\n\nput 12\n")
+        wanted = f"{self.text}:2: no register 'speed' that way\n{self.text}:4: '12' is not a number of 4 hex digits\n"
+        self.assertEqual(run("write", self.text, self.recording), (1, b"", wanted))
+        self.assertEqual(run("explain", self.text), (1, b"", wanted))
+        self.assertFalse(self.recording.exists())
+        self.assertEqual(run("write", "-", given=b"\njump"), (1, b"", "standard input:2: can't read 'jump'\n"))
+
+    def test_what_is_no_text(self):
+        self.text.write_bytes(b"read status\n# \xff\n")
+        self.assertEqual(run("write", self.text), (1, b"", f"{self.text}:2: the text is not UTF-8\n"))
+
+    def test_files_that_can_not_be_had(self):
+        absent = self.home / "absent.txt"
+        for arguments in (["write", absent], ["read", absent], ["explain", absent], ["read", self.recording, absent]):
+            self.assertEqual(run(*arguments), (1, b"", f"{absent}: No such file or directory\n"))
+        for arguments in (["write", self.home], ["read", self.home], ["write", self.text, self.home], ["explain", self.recording, self.home]):
+            self.assertEqual(run(*arguments), (1, b"", f"{self.home}: Is a directory\n"))
+        with mock.patch.object(form, "LONGEST", 10):
+            self.assertEqual(run("read", self.recording), (1, b"", f"{self.recording}: longer than 10 bytes\n"))
+
+    def test_replies_that_can_not_be_had(self):
+        for body, reason in [("reply = b''", "the reply starts with nothing, not with version 01"),
+                             ("os.kill(os.getpid(), 9)", "ended by signal 9")]:
+            program = self.program(body)
+            for job in ("read", "explain"):
+                self.assertEqual(run(job, self.recording, program), (1, b"", f"{program}: {reason}\n"))
+        self.reply.write_bytes(self.REPLY[:-5])
+        self.assertRegex(run("read", self.recording, self.reply)[2], rf"^{self.reply}: .*the reply 2 records\n$")
+        program.write_text("no program")
+        self.assertEqual(run("read", self.recording, program), (1, b"", f"{program}: Exec format error\n"))
+
+    def test_bad_command_lines(self):
+        for arguments in ([], ["jump"], ["write"], ["read"], ["explain"], ["write", "a", "b", "c"], ["make", "a"], ["read", "--fast", "a"]):
+            with self.subTest(arguments=arguments):
+                code, out, err = run(*arguments)
+                self.assertEqual((code, out), (2, b""))
+                self.assertTrue(err.startswith("usage: "))
+
+
+class Checking(Folder):
+    def setUp(self):
+        super().setUp()
+        (self.home / "good.txt").write_text("# one\nread status -> 50\n\n2 line -> 0\n")
+        (self.home / "torn.txt").write_text("# two\nline -> 0\nraw 00\n-> fault\n")
+        (self.home / "README.md").write_text("prose\n\n")
+        self.assertEqual(run("--home", self.home, "make")[0], 0)
+
+    def check(self, *programs):
+        code, out, err = run("--home", self.home, "check", *programs)
+        return code, out.decode(), err
+
     def test_all_well(self):
-        code, out, _ = self.check(self.program(""))
-        self.assertEqual((code, out), (0, "2 recordings, 1 programs, 0 differences\n"))
+        self.assertEqual(self.check(self.program("")), (0, "2 recordings, 1 programs, 0 differences\n", ""))
 
     def test_files_against_texts(self):
         for name, data in [("good.rec", b"\x01"), ("torn.reply", b""), ("README.md", b"prose\n\n## The recordings\n")]:
@@ -152,11 +174,14 @@ class Checking(unittest.TestCase):
         self.assertIn("stray.rec: no text", out)
         self.assertTrue(out.endswith("2 recordings, 0 programs, 2 differences\n"))
 
-    def test_text_without_its_line(self):
+    def test_texts_that_are_not_strict(self):
         (self.home / "bare.txt").write_text("line -> 0\n")
-        code, _, err = self.check()
-        self.assertEqual(code, 1)
-        self.assertIn("bare.txt:1:", err)
+        (self.home / "open.txt").write_text("# three\nline -> 0\nread status\n")
+        (self.home / "accent.txt").write_bytes(b"# four\n# \xc3\xa4\n")
+        for job in ("check", "make"):
+            code, _, err = run("--home", self.home, job)
+            self.assertEqual((code, [line[:line.index(" ")] for line in err.splitlines()]),
+                             (1, ["accent.txt:2:", "bare.txt:1:", "open.txt:3:"]))
 
     def test_difference_names_line_expected_and_given(self):
         code, out, _ = self.check(self.program("if len(reply) > 15: reply = reply[:15] + b'\\x01'"))
@@ -195,53 +220,6 @@ class Checking(unittest.TestCase):
         self.assertNotIn("torn", readme)
 
 
-class Showing(unittest.TestCase):
-    def shown(self, *lines):
-        made = entry(*lines)
-        return recordings.show_lines(made.recording, made.reply)
-
-    def test_registers_and_bits_by_name(self):
-        lines = self.shown("write command 20", "read status -> 58", "read error -> 14", "read error -> 01",
-                           "write device-control 06", "read device-head -> F3", "read 9 -> answer 1", "line -> 1")
-        for line, text in zip(lines, ["write Command 20h READ SECTORS", "-> 58h DRDY DSC DRQ", "-> 14h IDNF ABRT",
-                                      "-> 01h start value", "write Device-Control 06h SRST nIEN",
-                                      "-> F3h LBA DEV head 3", "read register 9", "-> 1 raised"]):
-            self.assertIn(text, line)
-        self.assertIn("answer 1: no such register", lines[6])
-
-    def test_equal_words_fold(self):
-        lines = self.shown("3 word -> 0000", "word -> 0001", "2 put 0001", "word -> answer 4", "2 line -> 0")
-        self.assertEqual(len(lines), 6)
-        self.assertRegex(lines[0], r"^ +1  read word  x 3 +-> 0000h$")
-        self.assertRegex(lines[2], r"^ +5  write word 0001h  x 2 +-> done$")
-        self.assertRegex(lines[5], r"^ +9  line")
-
-    def test_faults_by_kind(self):
-        for data, text in [("", "empty input"), ("02", "another version (02h)"), ("01 00", "a record cut short"),
-                           ("01 00 02", "a record cut short"), ("01 00 02 01", "a record cut short"),
-                           ("01 00 00", "too short"), ("01 00 01 08", "unknown kind 08h"),
-                           ("01 00 03 01 07 00", "too long for kind 01h"), ("01 00 02 02 07", "too short for kind 02h")]:
-            with self.subTest(data=data):
-                lines = recordings.show_lines(bytes.fromhex(data), bytes.fromhex("01 00 01 05"))
-                self.assertEqual(len(lines), 1)
-                self.assertIn("fault: ", lines[0])
-                self.assertIn(text, lines[0])
-                self.assertIn("-> fault (answer 5)", lines[0])
-
-    def test_reply_that_does_not_fit(self):
-        recording = bytes.fromhex("01 00 01 07")
-        self.assertIn("no reply", recordings.show_lines(recording, b"\x01")[0])
-        self.assertIn("past the end", recordings.show_lines(recording, bytes.fromhex("01 00 03 00 00 00 00 01 05"))[1])
-        self.assertNotIn("->", recordings.show_lines(recording, None)[0])
-
-    def test_from_the_command_line(self):
-        name = ROOT / "recordings" / "start-whole-case"
-        code, out, _ = run("show", f"{name}.rec", f"{name}.reply")
-        self.assertEqual(code, 0)
-        self.assertRegex(out, r"^ +1  read Status +-> 50h DRDY DSC\n$")
-        self.assertEqual(run("show", f"{name}.none")[0], 1)
-
-
 class Corpus(unittest.TestCase):
     def test_files_are_what_the_texts_give(self):
         code, out, _ = run("check")
@@ -249,11 +227,11 @@ class Corpus(unittest.TestCase):
 
     def test_every_command_of_document_01_and_every_fault_stands_in_it(self):
         codes, faults = set(), set()
-        for made in recordings.load(recordings.HOME):
-            good, fault = recordings.records(made.recording)
+        for made in corpus.load(recordings.HOME):
+            good, fault = form.records(made.recording)
             codes |= {payload[2] for payload in good if payload[:2] == b"\x02\x07"}
             faults.add(fault)
-        self.assertEqual(set(recordings.COMMANDS) - codes, set())
+        self.assertEqual(set(papers.COMMANDS) - codes, set())
         self.assertIn(0x00, codes)
         for fault in ("empty input", "a record cut short", "a payload too short: it has no kind", "unknown kind 08h",
                       "another version (02h)", *[f"a payload too long for kind {kind:02X}h" for kind in range(1, 8)],

@@ -63,7 +63,7 @@ def lengths():
     for path in glob.glob('second/**/*.rs', recursive=True) + glob.glob('differential/**/*.rs', recursive=True):
         for name, lines, _, _ in functions(path):
             yield f'{path}: {name}', lines
-    for path in glob.glob('tools/*.py') + glob.glob('tests/*.py'):
+    for path in glob.glob('tools/**/*.py', recursive=True) + glob.glob('tests/*.py'):
         for node in ast.walk(ast.parse(read(path))):
             if isinstance(node, ast.FunctionDef):
                 yield f'{path}: {node.name}', node.end_lineno - node.lineno + 1
