@@ -31,10 +31,10 @@ build_library() {
 
 # Builds a host in C over the library, with these further flags and sources.
 build_host() { # NAME FLAG-OR-SOURCE..
-    local name=$1
-    shift
     mkdir -p "$hosts"
-    cc -std=c99 -Wall -Wextra -Wpedantic -Wconversion -Werror -O2 -Iinclude -o "$hosts/$name" "$@" "$library"
+    host=$hosts/$1
+    shift
+    cc -std=c99 -Wall -Wextra -Wpedantic -Wconversion -Werror -O2 -Iinclude -o "$host" "$@" "$library"
 }
 
 # Builds the two programs that time single actions.

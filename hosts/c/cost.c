@@ -134,6 +134,12 @@ static void batch_bulk_write(void) {
     }
 }
 
+static void batch_nothing(void) {
+    for (int i = 0; i < SECTORS; i++) {
+        sink = thinnarom_disk_read_words(&disk, out, 0).value;
+    }
+}
+
 static void batch_memcpy(void) {
     for (size_t i = 0; i < SECTORS; i++) {
         sink = ((uint8_t *)copy(out, sectors + i * THINNAROM_SECTOR_BYTES, sizeof out))[0];
@@ -158,6 +164,7 @@ static const row ROWS[] = {{"register-read", idle, batch_register_read, SECTORS}
                            {"words-write", writing, batch_words_write, BLOCKS},
                            {"bulk-read", reading, batch_bulk_read, SECTORS - 1},
                            {"bulk-write", writing, batch_bulk_write, SECTORS - 1},
+                           {"nothing", idle, batch_nothing, SECTORS},
                            {"memcpy", idle, batch_memcpy, SECTORS}};
 enum { ROW_COUNT = sizeof ROWS / sizeof ROWS[0] };
 

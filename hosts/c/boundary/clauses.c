@@ -40,10 +40,6 @@ static unsigned long all_calls(lent *l, const disk *d) {
     return CALLS;
 }
 
-static bool may_be_locked(int kind) {
-    return kind == IDLE || kind == READS_BUFFER || kind == WRITES_BUFFER || kind == UNLOCKS || kind == ERASES;
-}
-
 /* Bases that let every clause be broken by one byte: security enabled, in turn locked and open, idle ones held or with DEV set. */
 static void make_base(disk *d, enum kind kind, int which) {
     random_disk_of(d, kind, 1, 2, 1);
@@ -134,7 +130,7 @@ unsigned long check_geometries(side at) {
 }
 
 /* For which kinds of transfer each clause can be broken alone. */
-static bool speaks_of(enum clause clause, int kind) {
+static bool speaks_of(enum clause clause, enum kind kind) {
     bool moves = kind == READS || kind == WRITES;
     switch (clause) {
     case STRAY_BYTES:
@@ -167,7 +163,7 @@ void clauses_reached(void) {
     for (int clause = 0; clause < CLAUSES; clause++) {
         printf("boundary:   broken alone %6lu times: %s\n", alone[clause], CLAUSE_NAMES[clause]);
         for (int kind = 0; kind < KINDS; kind++) {
-            if (speaks_of((enum clause)clause, kind) && alone_by_kind[clause][kind] == 0) {
+            if (speaks_of((enum clause)clause, (enum kind)kind) && alone_by_kind[clause][kind] == 0) {
                 fail("'%s' was never broken alone with transfer %d", CLAUSE_NAMES[clause], kind);
             }
         }

@@ -71,10 +71,9 @@ static void put_address(uint8_t *s) {
 }
 
 static void put_lock(uint8_t *s, enum kind kind) {
-    bool may_be_locked = kind == IDLE || kind == READS_BUFFER || kind == WRITES_BUFFER || kind == UNLOCKS || kind == ERASES;
     bool may_be_frozen = kind < SETS;
     s[LOCK] = (uint8_t)below(3);
-    if ((s[LOCK] == LOCKED && !may_be_locked) || (s[LOCK] == FROZEN && !may_be_frozen)) {
+    if ((s[LOCK] == LOCKED && !may_be_locked(kind)) || (s[LOCK] == FROZEN && !may_be_frozen)) {
         s[LOCK] = OPEN;
     }
     s[ENABLED] = s[LOCK] == LOCKED ? 1 : mark();

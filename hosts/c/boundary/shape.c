@@ -44,6 +44,10 @@ bool writes_words(const uint8_t *s) {
     return s[KIND] == WRITES || (s[KIND] >= WRITES_BUFFER && s[KIND] < KINDS);
 }
 
+bool may_be_locked(enum kind kind) {
+    return kind == IDLE || kind == READS_BUFFER || kind == WRITES_BUFFER || kind == UNLOCKS || kind == ERASES;
+}
+
 static bool moves_sectors(const uint8_t *s) {
     return s[KIND] == READS || s[KIND] == WRITES;
 }

@@ -85,4 +85,7 @@ uint32_t cylinders_by_91h(uint32_t capacity, uint32_t heads, uint32_t sectors);
 bool reads_words(const uint8_t *state);
 bool writes_words(const uint8_t *state);
 
+/* Whether a locked disk may have this transfer open. */
+bool may_be_locked(enum kind kind);
+
 #endif
