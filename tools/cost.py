@@ -114,6 +114,8 @@ def table_text(arguments, times, counts):
         "| " + " | ".join(heads) + " |",
         "|---" + "|--:" * (len(heads) - 1) + "|",
         *table_lines(times, counts),
+        "",
+        "Missed: " + "; ".join(missed_targets(times[0])) + "." if any(missed_targets(times[0])) else "All targets are met.",
     ])
 
 

@@ -322,6 +322,8 @@ static void opening(disk_and_sectors *bus) {
     puts("\n2. Payment's turn");
     puts("");
     payment_opens(&bus->disk, &PAYMENT);
+    const char *last = PAYMENT.tokens[TOKENS - 1];
+    expect(memcmp(bus->disk.buffer, last, strlen(last)) == 0, "the last token stands in the sector buffer");
     puts("  Payment ends here. The disk is open, and the last token still stands in its sector buffer.\n");
     puts("3. Before anyone else has a turn, the host switches the disk off and on");
     puts("");
