@@ -1,7 +1,7 @@
 # make replay    proves and builds the replay program, then shows a recorded guest beside the replies (RECORDING=path)
 # make test      the gate: proves every crate from nothing, tries every must-fail edit, then the other tests
 # make soak      compares the proved and the second program over many sessions (SESSIONS=n, SEED=n)
-# make bench     times both programs, counts instructions and writes the table of docs/SPEED.md
+# make bench     times both programs and single actions from C, counts instructions and writes the tables of docs/SPEED.md
 # make proofs    writes the proof files of CRATE anew from its recipes (CRATE=address)
 # make fmt       takes unused imports out and lays sources and proofs out as the gate wants them
 
@@ -26,9 +26,11 @@ soak:
 	@$(PROGRAMS) && build_replay && build_others && echo '$(SESSIONS) sessions from seed $(SEED)' && \
 	$$differential compare --seed $(SEED) --count $(SESSIONS) --keep build/differences $$replay $$second
 
+# Both tables are made even where the first misses a target.
 bench:
-	@tools/install.sh python3 valgrind
-	@$(PROGRAMS) && build_replay && build_others && tools/bench.py $$replay $$second $$differential
+	@tools/install.sh python3 valgrind cc
+	@$(PROGRAMS) && build_replay && build_others && build_library && build_costs && \
+	{ tools/bench.py $$replay $$second $$differential; missed=$$?; tools/cost.py $$hosts/cost $$second_cost && exit $$missed; }
 
 proofs:
 	@tools/prove.py $(CRATE)

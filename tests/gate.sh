@@ -60,10 +60,10 @@ compare() {
     "$differential" compare --seed 1 --count 2000 --keep build/differences "$replay" "$second"
 }
 
-tools/install.sh python3 || exit 2
+tools/install.sh python3 cc || exit 2
 
-# With a stand-in the parts can be tried, but the verdict is not the proved program's.
-[ -z "${REPLAY:-}" ] || part 'stand-in' false
+# With a stand-in the parts can be tried, but the verdict is not the proved program's or library's.
+[ -z "${REPLAY:-}${THINNAROM_LIBRARY:-}" ] || part 'stand-in' false
 # A slip in a text is found before anything is proved.
 python3 tests/repository.py >"$log" 2>&1 || { cat "$log"; echo '0 passed, 1 failed'; exit 1; }
 
@@ -75,6 +75,7 @@ part 'second program' rust_told
 part 'recordings' recordings
 part 'program' python3 tests/program.py "$replay" "$second" "$differential"
 part 'differential' compare
+part 'embedding in C' tests/embedding.sh
 part 'repository' python3 tests/repository.py "$log"
 
 verdict=$(tail -n 1 "$log")

@@ -56,12 +56,21 @@ def all_functions():
             yield path.split('/')[1] + '::' + name, lines, public, required
 
 
+def c_functions(path):
+    """(name, lines) of each function of a C file: from the line at the margin that names it to the brace at the margin."""
+    for m in re.finditer(r'^\w[\w *]*?(\w+)\([^;{}]*\) \{$.*?^\}$', read(path), re.M | re.S):
+        yield m.group(1), m.group().count('\n') + 1
+
+
 def lengths():
-    """(name, lines) of each function: the crates', the Rust packages' and the scripts'."""
+    """(name, lines) of each function: the crates', the Rust packages', the C hosts' and the scripts'."""
     for name, lines, _, _ in all_functions():
         yield name, lines
     for path in glob.glob('second/**/*.rs', recursive=True) + glob.glob('differential/**/*.rs', recursive=True):
         for name, lines, _, _ in functions(path):
+            yield f'{path}: {name}', lines
+    for path in glob.glob('include/*.h') + glob.glob('hosts/**/*.[ch]', recursive=True):
+        for name, lines in c_functions(path):
             yield f'{path}: {name}', lines
     for path in glob.glob('tools/**/*.py', recursive=True) + glob.glob('tests/*.py'):
         for node in ast.walk(ast.parse(read(path))):

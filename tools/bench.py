@@ -169,13 +169,13 @@ def table_text(rows, arguments):
     return "\n".join(lines + [table_line(row) for row in rows])
 
 
-def write_table(path, table):
+def write_table(path, table, marks=(BEGIN_MARK, END_MARK)):
     """Replaces what stands between the marks, or adds the marks at the end."""
-    block = f"{BEGIN_MARK}\n{table}\n{END_MARK}"
+    block = f"{marks[0]}\n{table}\n{marks[1]}"
     text = path.read_text() if path.exists() else "# Speed\n"
-    begin, end = text.find(BEGIN_MARK), text.find(END_MARK)
+    begin, end = text.find(marks[0]), text.find(marks[1])
     if 0 <= begin < end:
-        text = text[:begin] + block + text[end + len(END_MARK) :]
+        text = text[:begin] + block + text[end + len(marks[1]) :]
     else:
         text = f"{text.rstrip()}\n\n{block}\n"
     path.parent.mkdir(parents=True, exist_ok=True)

@@ -7,6 +7,11 @@ export CARGO_TARGET_DIR=build/cargo
 replay=${REPLAY:-target/bin/replay}
 second=$CARGO_TARGET_DIR/release/second
 differential=$CARGO_TARGET_DIR/release/differential
+# THINNAROM_LIBRARY likewise names another library.
+library=${THINNAROM_LIBRARY:-target/staticlib/libthinnarom.a}
+# Hosts in C, by name.
+hosts=build/hosts
+second_cost=$CARGO_TARGET_DIR/release/examples/cost
 
 # Proves and builds the replay program, unless nothing has changed since.
 build_replay() {
@@ -14,6 +19,28 @@ build_replay() {
     echo 'proving and building target/bin/replay (some minutes the first time)'
     mkdir -p build
     rt check replay >build/replay.log 2>&1 || { cat build/replay.log; return 1; }
+}
+
+# Proves and builds the static library, unless nothing has changed since.
+build_library() {
+    [ -z "${THINNAROM_LIBRARY:-}" ] || return 0
+    echo 'proving and building target/staticlib/libthinnarom.a (some minutes the first time)'
+    mkdir -p build
+    rt staticlib thinnarom >build/library.log 2>&1 || { cat build/library.log; return 1; }
+}
+
+# Builds a host in C over the library, with these further flags and sources.
+build_host() { # NAME FLAG-OR-SOURCE..
+    mkdir -p "$hosts"
+    host=$hosts/$1
+    shift
+    cc -std=c99 -Wall -Wextra -Wpedantic -Wconversion -Werror -O2 -Iinclude -o "$host" "$@" "$library"
+}
+
+# Builds the two programs that time single actions.
+build_costs() {
+    build_host cost hosts/c/cost.c hosts/c/guest.c &&
+        cargo build --release --offline --quiet --manifest-path second/Cargo.toml --example cost
 }
 
 # Builds the second program, and the one that compares the two.

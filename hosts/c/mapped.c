@@ -1,0 +1,135 @@
+/*
+ * A host whose sectors are a mapped file. The disk's state, which is plain bytes, stands in a second file beside it.
+ *
+ *     mapped PATH      makes PATH and PATH.state anew, then uses them in two lives of the disk
+ *
+ * The disk is the largest there is. Its file has holes where no sector was written, and the library touches only the
+ * sectors that a command reaches, so neither memory nor the medium holds more than a few pages of it.
+ */
+#define _POSIX_C_SOURCE 200809L
+#include <fcntl.h>
+#include <stdio.h>
+#include <sys/mman.h>
+#include <sys/stat.h>
+#include <unistd.h>
+
+#include "guest.h"
+
+enum { CYLINDERS = 1024, HEADS = 16, SECTORS_PER_TRACK = 63, CAPACITY = CYLINDERS * HEADS * SECTORS_PER_TRACK, AT_ONCE = 2 };
+
+static const uint32_t PLACES[] = {0, CAPACITY / 2, CAPACITY - AT_ONCE};
+enum { PLACE_COUNT = sizeof PLACES / sizeof PLACES[0] };
+
+static size_t length(void) {
+    return thinnarom_sectors_length(CYLINDERS, HEADS, SECTORS_PER_TRACK);
+}
+
+/* Opens a file, made anew and as long as the disk where `fresh`, and maps it. */
+static uint8_t *map(const char *path, bool fresh) {
+    struct stat found;
+    int file = open(path, fresh ? O_RDWR | O_CREAT | O_TRUNC : O_RDWR, 0600);
+    expect(file >= 0, "the file for the sectors opens");
+    expect(!fresh || ftruncate(file, (off_t)length()) == 0, "the file takes the length of the disk");
+    expect(fstat(file, &found) == 0 && (size_t)found.st_size == length(), "the file is as long as the disk");
+    void *sectors = mmap(NULL, length(), PROT_READ | PROT_WRITE, MAP_SHARED, file, 0);
+    expect(sectors != MAP_FAILED, "the file is mapped");
+    expect(close(file) == 0, "the file closes; the mapping stays");
+    return sectors;
+}
+
+static void unmap(uint8_t *sectors) {
+    expect(msync(sectors, length(), MS_SYNC) == 0, "the sectors reach the file");
+    expect(munmap(sectors, length()) == 0, "the file is unmapped");
+}
+
+/* Passwords stand in the state, so nobody but the host may read it. */
+static void keep_state(const thinnarom_disk *disk, const char *path) {
+    int file = open(path, O_WRONLY | O_CREAT | O_TRUNC, 0600);
+    expect(file >= 0, "the file for the state opens");
+    expect(write(file, disk->state, sizeof disk->state) == (ssize_t)sizeof disk->state, "the state is written");
+    expect(close(file) == 0, "the file for the state closes");
+}
+
+static void bring_state(thinnarom_disk *disk, const char *path) {
+    uint8_t found[THINNAROM_STATE_BYTES + 1];
+    int file = open(path, O_RDONLY);
+    expect(file >= 0, "the file for the state opens again");
+    expect(read(file, found, sizeof found) == THINNAROM_STATE_BYTES, "the file holds a state and nothing else");
+    expect(close(file) == 0, "the file for the state closes");
+    memcpy(disk->state, found, sizeof disk->state);
+}
+
+/* Bytes that tell of their place, so that a sector that is read from another one does not pass. */
+static void fill(uint8_t *bytes, uint32_t lba) {
+    for (uint32_t i = 0; i < AT_ONCE * THINNAROM_SECTOR_BYTES; i++) {
+        bytes[i] = (uint8_t)((lba * 512 + i) * 2654435761u >> 24);
+    }
+}
+
+static void write_sectors(thinnarom_disk *disk) {
+    uint8_t bytes[AT_ONCE * THINNAROM_SECTOR_BYTES];
+    guest g = guest_on(disk);
+    for (size_t i = 0; i < PLACE_COUNT; i++) {
+        fill(bytes, PLACES[i]);
+        guest_address(&g, PLACES[i], AT_ONCE);
+        guest_write(&g, THINNAROM_COMMAND, THINNAROM_WRITE_SECTORS);
+        expect(guest_write_words(&g, bytes, sizeof bytes) == sizeof bytes / 2, "the words pass");
+        expect(guest_read(&g, THINNAROM_STATUS) == STATUS_IDLE, "WRITE SECTORS ends well");
+    }
+}
+
+static void read_sectors(thinnarom_disk *disk) {
+    uint8_t bytes[AT_ONCE * THINNAROM_SECTOR_BYTES], wanted[sizeof bytes];
+    guest g = guest_on(disk);
+    for (size_t i = 0; i < PLACE_COUNT; i++) {
+        fill(wanted, PLACES[i]);
+        guest_address(&g, PLACES[i], AT_ONCE);
+        guest_write(&g, THINNAROM_COMMAND, THINNAROM_READ_SECTORS);
+        expect(guest_read_words(&g, bytes, sizeof bytes) == sizeof bytes / 2, "the words come back");
+        expect(guest_read(&g, THINNAROM_STATUS) == STATUS_IDLE, "READ SECTORS ends well");
+        expect(memcmp(bytes, wanted, sizeof bytes) == 0, "a sector is read back as it was written");
+        expect(memcmp(disk->sectors + (size_t)512 * PLACES[i], wanted, sizeof bytes) == 0, "the file has it at 512 x LBA");
+    }
+}
+
+static void first_life(const char *path, const char *state_path) {
+    static thinnarom_disk disk;
+    static const uint8_t master[THINNAROM_PASSWORD_BYTES];
+    uint8_t identity[THINNAROM_IDENTITY_BYTES];
+    thinnarom_identity(identity, "BUS-0042", "1.0", "THINNAROM");
+    thinnarom_disk_lend(&disk, map(path, true), length());
+    thinnarom_reply made = thinnarom_disk_setup(&disk, CYLINDERS, HEADS, SECTORS_PER_TRACK, identity, master);
+    expect(made.answer == THINNAROM_DONE, "setup takes the geometry");
+    write_sectors(&disk);
+    expect(thinnarom_disk_power_on(&disk).answer == THINNAROM_DONE, "the disk is powered on");
+    keep_state(&disk, state_path);
+    unmap(disk.sectors);
+    printf("made a disk of %d sectors in a mapped file of %zu bytes, wrote %d sectors at LBA 0, %d and %d\n", CAPACITY, length(),
+           (int)PLACE_COUNT * AT_ONCE, CAPACITY / 2, CAPACITY - AT_ONCE);
+    printf("powered it on, kept the %d bytes of its state in a file, unmapped it\n", THINNAROM_STATE_BYTES);
+}
+
+/* The buffer was not kept: a power-on zeroes it whatever it holds. */
+static void second_life(const char *path, const char *state_path) {
+    static thinnarom_disk disk;
+    struct stat found;
+    bring_state(&disk, state_path);
+    thinnarom_disk_lend(&disk, map(path, false), length());
+    expect(thinnarom_disk_power_on(&disk).answer == THINNAROM_DONE, "the disk comes back to life");
+    read_sectors(&disk);
+    unmap(disk.sectors);
+    expect(stat(path, &found) == 0, "the file is there");
+    printf("the file takes %lld KiB of the medium\n", (long long)found.st_blocks / 2);
+    printf("mapped it again, brought the state back, read the %d sectors: all as written\n", (int)PLACE_COUNT * AT_ONCE);
+}
+
+int main(int count, char **words) {
+    char state_path[4096];
+    if (count != 2 || snprintf(state_path, sizeof state_path, "%s.state", words[1]) >= (int)sizeof state_path) {
+        fprintf(stderr, "usage: mapped PATH\n");
+        return 2;
+    }
+    first_life(words[1], state_path);
+    second_life(words[1], state_path);
+    return 0;
+}

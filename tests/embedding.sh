@@ -1,0 +1,79 @@
+#!/usr/bin/env bash
+# The library as a C host meets it: its symbols, its header, and the hosts of hosts/c over it, built with every warning an error.
+# Those that run here are built with sanitizers; the library is not, so the boundary test lays what it lends against
+# inaccessible pages.
+set -u
+cd "$(dirname "$0")/.." || exit 2
+. tools/programs.sh
+checked='-g -fsanitize=address,undefined -fno-sanitize-recover=all'
+# Nothing is allocated, and looking for leaks needs rights that not every machine gives.
+export ASAN_OPTIONS=detect_leaks=0
+failed=0
+
+# Runs one step; its output is shown where it fails, its last line where it passes.
+step() { # NAME COMMAND..
+    local name=$1 printed
+    shift
+    if printed=$("$@" 2>&1); then
+        echo "embedding: $name: $(tail -n 1 <<<"$printed")"
+    else
+        echo "embedding: $name: FAILED"
+        tail -n 40 <<<"$printed" | sed 's/^/  /'
+        failed=1
+    fi
+}
+
+# The ten calls and no other name; and nothing is wanted of others but what moves and compares bytes.
+symbols() {
+    local calls given wanted
+    calls=$(sed -n 's/^thinnarom_reply \(thinnarom_[a-z_]*\)(.*/\1/p' include/thinnarom.h | sort)
+    given=$(nm -g --defined-only "$library" | awk 'NF == 3 { print $3 }' | sort)
+    wanted=$(nm -u "$library" | awk '$1 == "U" { print $2 }' | sort -u | grep -vxE 'memcpy|memmove|memset|memcmp|bcmp')
+    diff <(echo "$calls") <(echo "$given") || return 1
+    [ -z "$wanted" ] || { echo "the library wants $wanted"; return 1; }
+    echo "$(wc -l <<<"$calls") calls, no other name, nothing allocated"
+}
+
+# In C++ too, where a compiler for it is there.
+header() {
+    local warnings='-Wall -Wextra -Wpedantic -Wconversion -Werror -Iinclude -fsyntax-only'
+    cc -std=c99 $warnings -x c include/thinnarom.h || return 1
+    command -v c++ >/dev/null || { echo 'compiles as C99; no C++ compiler to try'; return 0; }
+    c++ -std=c++11 $warnings -x c++ include/thinnarom.h && echo 'compiles as C99 and as C++11'
+}
+
+story() {
+    build_host story $checked hosts/c/story.c hosts/c/guest.c || return 1
+    "$hosts/story" >build/story.txt || return 1
+    diff hosts/story.txt build/story.txt && echo "as in hosts/story.txt, $(wc -l <build/story.txt) lines"
+}
+
+mapped() {
+    build_host mapped $checked hosts/c/mapped.c hosts/c/guest.c || return 1
+    "$hosts/mapped" build/mapped.disk
+    local status=$?
+    rm -f build/mapped.disk build/mapped.disk.state
+    return "$status"
+}
+
+# What it covered goes to a file; it fails by itself where a class was never reached.
+boundary() {
+    build_host boundary $checked hosts/c/boundary/*.c || return 1
+    "$hosts/boundary" >build/boundary.log || { cat build/boundary.log; return 1; }
+    awk '/none amiss$/ { n += $(NF - 2) } END { print n " calls and setups, none amiss (build/boundary.log)" }' build/boundary.log
+}
+
+# Times are not judged here, but the program that takes them has to work.
+cost() {
+    build_host cost hosts/c/cost.c hosts/c/guest.c || return 1
+    "$hosts/cost" >build/cost.txt && echo "times $(wc -l <build/cost.txt) kinds of action"
+}
+
+build_library || exit 1
+step symbols symbols
+step header header
+step story story
+step 'mapped file' mapped
+step boundary boundary
+step cost cost
+exit "$failed"
