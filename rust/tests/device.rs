@@ -71,6 +71,32 @@ fn nothing_that_is_shown_holds_a_secret() {
 }
 
 #[test]
+fn the_geometry_stays_the_factorys() {
+    let geometry = Geometry {
+        cylinders: 1_000,
+        heads: 3,
+        sectors_per_track: 5,
+    };
+    let identity = &Identity::new("", "", "").unwrap();
+    let mut disk = Device::new(&Setup {
+        geometry,
+        identity,
+        master_password: MASTER,
+    })
+    .unwrap();
+    let mut sectors = vec![0; geometry.sector_bytes()];
+    assert_eq!(disk.geometry(), geometry);
+    disk.write_register(&mut sectors, Register::SectorCount, 7)
+        .unwrap();
+    disk.write_register(&mut sectors, Register::DeviceHead, 1)
+        .unwrap();
+    disk.write_register(&mut sectors, Register::Command, 0x91)
+        .unwrap();
+    assert_eq!(disk.read_register(&mut sectors, Register::Status), Ok(0x50));
+    assert_eq!(disk.geometry(), geometry);
+}
+
+#[test]
 fn a_clone_goes_its_own_way() {
     let (mut disk, mut sectors) = disk();
     let mut clone = disk.clone();

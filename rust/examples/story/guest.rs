@@ -81,8 +81,9 @@ impl Guest<'_> {
     /// All the words that fit into `out`; how many have passed.
     pub fn read_words(&mut self, out: &mut [u8]) -> Answer<usize> {
         let told = self.disk.device.read_words(&mut self.disk.sectors, out);
-        self.words += told.unwrap_or(0);
-        self.hear(&out[..2 * told.unwrap_or(0)]);
+        let passed = told.unwrap_or(0);
+        self.words += passed;
+        self.hear(out.iter().take(2 * passed).collect::<Vec<_>>());
         self.hear(told)
     }
 
