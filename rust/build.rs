@@ -1,4 +1,5 @@
-//! Links the static library: the one that THINNAROM_LIBRARY names, or the one that the kit builds in this repository.
+//! Links the static library: the one that THINNAROM_LIBRARY names, or the one that the kit builds
+//! in this repository.
 
 use std::env;
 use std::path::{Path, PathBuf};
@@ -13,7 +14,8 @@ fn main() {
     }
 }
 
-/// Cargo runs this in the package's folder, where a path of the caller's folder would be looked for in vain.
+/// Cargo runs this in the package's folder, where a path of the caller's folder would be looked for
+/// in vain.
 fn library() -> Result<PathBuf, String> {
     let Some(named) = env::var_os(VARIABLE).map(PathBuf::from) else {
         return Ok(package().join("../target/staticlib/libthinnarom.a"));

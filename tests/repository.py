@@ -61,10 +61,9 @@ def lengths():
     """(name, lines) of each function: the crates', the Rust packages' and the scripts'."""
     for name, lines, _, _ in all_functions():
         yield name, lines
-    for package in ['second', 'differential', 'rust']:
-        for path in glob.glob(f'{package}/**/*.rs', recursive=True):
-            for name, lines, _, _ in functions(path):
-                yield f'{path}: {name}', lines
+    for path in [path for package in ('second', 'differential', 'rust') for path in glob.glob(f'{package}/**/*.rs', recursive=True)]:
+        for name, lines, _, _ in functions(path):
+            yield f'{path}: {name}', lines
     for path in glob.glob('tools/*.py') + glob.glob('tests/*.py'):
         for node in ast.walk(ast.parse(read(path))):
             if isinstance(node, ast.FunctionDef):

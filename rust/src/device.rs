@@ -26,26 +26,31 @@ impl Drop for Memory {
     }
 }
 
-/// One disk, alone on its cable, without its sectors: these the host keeps where it likes and lends to each call.
+/// One disk, alone on its cable, without its sectors: these the host keeps where it likes and lends
+/// to each call.
 ///
-/// Each call is one action of the host at the cable, and takes the sectors first: [`Geometry::sector_bytes`] bytes, in
-/// a `Vec`, a file mapped into memory, or whatever else gives a `&mut [u8]`. A call is done, or it says why not and
-/// has changed nothing.
+/// Each call is one action of the host at the cable, and takes the sectors first:
+/// [`Geometry::sector_bytes`] bytes, in a `Vec`, a file mapped into memory, or whatever else gives
+/// a `&mut [u8]`. A call is done, or it says why not and has changed nothing.
+///
+/// In the examples below, `disk` is a new one of 4 x 2 x 8 sectors and `sectors` its memory.
 ///
 /// # What it keeps, and what it forgets
 ///
-/// A device holds both passwords in plain, and its sector buffer may hold the last sector that passed. Both are
-/// overwritten with zeros when it is dropped, and stay in one place until then, however often the device is moved.
-/// That covers this memory and no other: the library's calls work on copies on the stack, which are not wiped, and what
-/// [`Device::to_bytes`] gives away is its new owner's to look after.
+/// A device holds both passwords in plain, and its sector buffer may hold the last sector that
+/// passed. Both are overwritten with zeros when it is dropped, and stay in one place until then,
+/// however often the device is moved. That covers this memory and no other: the library's calls
+/// work on copies on the stack, which are not wiped, and what [`Device::to_bytes`] gives away is
+/// its new owner's to look after.
 ///
-/// A clone is a second disk in the same state, with attempts of its own: who lets a guest try passwords on clones
-/// lets it try more than five.
+/// A clone is a second disk in the same state, with attempts of its own: who lets a guest try
+/// passwords on clones lets it try more than five.
 ///
 /// # Errors
 ///
-/// Every call that takes sectors gives [`Error::WrongLength`] for another number of bytes than the geometry's. None
-/// gives [`Error::OutOfShape`] but [`Device::from_bytes`]: a device that was made is in shape and stays so.
+/// Every call that takes sectors gives [`Error::WrongLength`] for another number of bytes than the
+/// geometry's. None gives [`Error::OutOfShape`] but [`Device::from_bytes`]: a device that was made
+/// is in shape and stays so.
 ///
 /// # Panics
 ///
@@ -59,11 +64,13 @@ impl Device {
     /// The bytes that [`Device::to_bytes`] gives: state and buffer.
     pub const BYTES: usize = STATE_BYTES + BUFFER_BYTES;
 
-    /// A disk just powered on, with security off. Setup never looks at sectors: what they hold, the disk holds.
+    /// A disk just powered on, with security off. Setup never looks at sectors: what they hold, the
+    /// disk holds.
     ///
     /// # Errors
     ///
-    /// [`Error::SetupRefused`] outside the limits that [`Geometry`] and [`Identity`](crate::Identity) name.
+    /// [`Error::SetupRefused`] outside the limits that [`Geometry`] and
+    /// [`Identity`](crate::Identity) name.
     ///
     /// ```
     /// use thinnarom::{Device, Error, Geometry, Identity, Setup};
@@ -98,7 +105,7 @@ impl Device {
     /// The factory geometry, which says how many bytes of sectors to lend.
     ///
     /// ```
-    /// # let (disk, sectors) = include!(concat!(env!("CARGO_MANIFEST_DIR"), "/doctests/small_disk.rs"));
+    /// # let (disk, sectors) = include!("../doctests/small_disk.rs");
     /// assert_eq!(disk.geometry().sector_bytes(), sectors.len());
     /// ```
     pub fn geometry(&self) -> Geometry {
@@ -117,7 +124,7 @@ impl Device {
     /// [`Error::NoSuchRegister`] for 0 and for numbers above 8.
     ///
     /// ```
-    /// # let (mut disk, mut sectors) = include!(concat!(env!("CARGO_MANIFEST_DIR"), "/doctests/small_disk.rs"));
+    /// # let (mut disk, mut sectors) = include!("../doctests/small_disk.rs");
     /// use thinnarom::{Error, Register};
     ///
     /// assert_eq!(disk.read_register(&mut sectors, Register::Status), Ok(0x50));
@@ -128,15 +135,17 @@ impl Device {
         value(self.lend(sectors).read_register(register.into()))
     }
 
-    /// Writes a register, by name or by any number. A command runs to its first data word, or to its end, at once.
+    /// Writes a register, by name or by any number. A command runs to its first data word, or to
+    /// its end, at once.
     ///
     /// # Errors
     ///
-    /// [`Error::NoSuchRegister`] for 0 and for numbers above 8. A write that the disk ignores, and a command that it
-    /// aborts, are done: what came of them stands in Status and Error, for the guest to read.
+    /// [`Error::NoSuchRegister`] for 0 and for numbers above 8. A write that the disk ignores, and
+    /// a command that it aborts, are done: what came of them stands in Status and Error, for the
+    /// guest to read.
     ///
     /// ```
-    /// # let (mut disk, mut sectors) = include!(concat!(env!("CARGO_MANIFEST_DIR"), "/doctests/small_disk.rs"));
+    /// # let (mut disk, mut sectors) = include!("../doctests/small_disk.rs");
     /// use thinnarom::Register;
     ///
     /// disk.write_register(&mut sectors, Register::Command, 0x00)?; // there is no such command
@@ -160,7 +169,7 @@ impl Device {
     /// [`Error::NoTransfer`] where the disk has no word for the host.
     ///
     /// ```
-    /// # let (mut disk, mut sectors) = include!(concat!(env!("CARGO_MANIFEST_DIR"), "/doctests/small_disk.rs"));
+    /// # let (mut disk, mut sectors) = include!("../doctests/small_disk.rs");
     /// use thinnarom::{Error, Register};
     ///
     /// assert_eq!(disk.read_word(&mut sectors), Err(Error::NoTransfer));
@@ -179,10 +188,10 @@ impl Device {
     /// [`Error::NoTransfer`] where the disk wants no word from the host.
     ///
     /// ```
-    /// # let (mut disk, mut sectors) = include!(concat!(env!("CARGO_MANIFEST_DIR"), "/doctests/small_disk.rs"));
+    /// # let (mut disk, mut sectors) = include!("../doctests/small_disk.rs");
     /// use thinnarom::Register;
     ///
-    /// disk.write_register(&mut sectors, Register::Command, 0x30)?; // WRITE SECTORS, cylinder 0, head 0, sector 1
+    /// disk.write_register(&mut sectors, Register::Command, 0x30)?; // WRITE SECTORS, the first one
     /// for _ in 0..255 {
     ///     disk.write_word(&mut sectors, 0x1234)?;
     /// }
@@ -195,20 +204,21 @@ impl Device {
         done(self.lend(sectors).write_word(word))
     }
 
-    /// Reads as many data words as fit into `out`, each low byte first, and gives how many have passed: what that many
-    /// calls of [`Device::read_word`] would do, up to the first that is turned away. It goes on over the ends of
-    /// sectors within one command. Bytes of `out` behind the words stay as they were.
+    /// Reads as many data words as fit into `out`, each low byte first, and gives how many have
+    /// passed: what that many calls of [`Device::read_word`] would do, up to the first that is
+    /// turned away. It goes on over the ends of sectors within one command. Bytes of `out` behind
+    /// the words stay as they were.
     ///
     /// # Errors
     ///
     /// [`Error::NoTransfer`] where already the first word is turned away.
     ///
     /// ```
-    /// # let (mut disk, mut sectors) = include!(concat!(env!("CARGO_MANIFEST_DIR"), "/doctests/small_disk.rs"));
+    /// # let (mut disk, mut sectors) = include!("../doctests/small_disk.rs");
     /// use thinnarom::Register;
     ///
     /// disk.write_register(&mut sectors, Register::SectorCount, 2)?;
-    /// disk.write_register(&mut sectors, Register::Command, 0x20)?; // READ SECTORS, from the first one
+    /// disk.write_register(&mut sectors, Register::Command, 0x20)?; // READ SECTORS
     /// let mut blocks = [0; 2_000];
     /// assert_eq!(disk.read_words(&mut sectors, &mut blocks)?, 512);
     /// assert_eq!(blocks[..1_024], sectors[..1_024]);
@@ -218,18 +228,19 @@ impl Device {
         value(self.lend(sectors).read_words(out))
     }
 
-    /// Writes the data words in `bytes`, each low byte first, and gives how many have passed: what that many calls of
-    /// [`Device::write_word`] would do, up to the first that is turned away. An odd last byte is left out.
+    /// Writes the data words in `bytes`, each low byte first, and gives how many have passed: what
+    /// that many calls of [`Device::write_word`] would do, up to the first that is turned away. An
+    /// odd last byte is left out.
     ///
     /// # Errors
     ///
     /// [`Error::NoTransfer`] where already the first word is turned away.
     ///
     /// ```
-    /// # let (mut disk, mut sectors) = include!(concat!(env!("CARGO_MANIFEST_DIR"), "/doctests/small_disk.rs"));
+    /// # let (mut disk, mut sectors) = include!("../doctests/small_disk.rs");
     /// use thinnarom::Register;
     ///
-    /// disk.write_register(&mut sectors, Register::Command, 0x30)?; // WRITE SECTORS, one sector
+    /// disk.write_register(&mut sectors, Register::Command, 0x30)?; // WRITE SECTORS
     /// assert_eq!(disk.write_words(&mut sectors, &[0xAB; 1_024])?, 256);
     /// assert_eq!(sectors[..512], [0xAB; 512]);
     /// # Ok::<(), thinnarom::Error>(())
@@ -241,7 +252,7 @@ impl Device {
     /// Hardware reset: it leaves what [`Device::power_on`] leaves.
     ///
     /// ```
-    /// # let (mut disk, mut sectors) = include!(concat!(env!("CARGO_MANIFEST_DIR"), "/doctests/small_disk.rs"));
+    /// # let (mut disk, mut sectors) = include!("../doctests/small_disk.rs");
     /// disk.hardware_reset(&mut sectors)?;
     /// # Ok::<(), thinnarom::Error>(())
     /// ```
@@ -249,11 +260,11 @@ impl Device {
         done(self.lend(sectors).hardware_reset())
     }
 
-    /// Powers the disk off and on, which a host does before another guest's turn: start values, a zeroed buffer, five
-    /// attempts, and locked if a password is set. Passwords and sectors stay.
+    /// Powers the disk off and on, which a host does before another guest's turn: start values, a
+    /// zeroed buffer, five attempts, and locked if a password is set. Passwords and sectors stay.
     ///
     /// ```
-    /// # let (mut disk, mut sectors) = include!(concat!(env!("CARGO_MANIFEST_DIR"), "/doctests/small_disk.rs"));
+    /// # let (mut disk, mut sectors) = include!("../doctests/small_disk.rs");
     /// use thinnarom::{Error, Register};
     ///
     /// disk.write_register(&mut sectors, Register::Command, 0xE8)?; // WRITE BUFFER
@@ -265,11 +276,11 @@ impl Device {
         done(self.lend(sectors).power_on())
     }
 
-    /// Whether the interrupt line is raised. Hosts ask after each call that may have changed it; the guest clears it by
-    /// reading Status.
+    /// Whether the interrupt line is raised. Hosts ask after each call that may have changed it;
+    /// the guest clears it by reading Status.
     ///
     /// ```
-    /// # let (mut disk, mut sectors) = include!(concat!(env!("CARGO_MANIFEST_DIR"), "/doctests/small_disk.rs"));
+    /// # let (mut disk, mut sectors) = include!("../doctests/small_disk.rs");
     /// use thinnarom::Register;
     ///
     /// disk.write_register(&mut sectors, Register::Command, 0x10)?; // RECALIBRATE
@@ -284,11 +295,11 @@ impl Device {
 
     /// The device as bytes, for a host that keeps it over a restart: state, then buffer.
     ///
-    /// They hold both passwords in plain. Where they are kept, whoever reads that place opens the disk; and who puts
-    /// old bytes back gives back the attempts that were left then.
+    /// They hold both passwords in plain. Where they are kept, whoever reads that place opens the
+    /// disk; and who puts old bytes back gives back the attempts that were left then.
     ///
     /// ```
-    /// # let (mut disk, mut sectors) = include!(concat!(env!("CARGO_MANIFEST_DIR"), "/doctests/small_disk.rs"));
+    /// # let (mut disk, mut sectors) = include!("../doctests/small_disk.rs");
     /// use thinnarom::{Device, Register};
     ///
     /// disk.write_register(&mut sectors, Register::SectorCount, 7)?;
@@ -308,8 +319,8 @@ impl Device {
     ///
     /// # Errors
     ///
-    /// [`Error::OutOfShape`] where the bytes are no device, or are not [`Device::BYTES`] many. That any others are the
-    /// bytes of the device that was kept, nothing here can tell.
+    /// [`Error::OutOfShape`] where the bytes are no device, or are not [`Device::BYTES`] many. That
+    /// any others are the bytes of the device that was kept, nothing here can tell.
     ///
     /// ```
     /// use thinnarom::{Device, Error};
@@ -327,7 +338,8 @@ impl Device {
         let (state, buffer) = bytes.split_at(STATE_BYTES);
         device.memory.state.copy_from_slice(state);
         device.memory.buffer.copy_from_slice(buffer);
-        // No disk has no sectors, so a device in shape turns this away for their length, which it tests after the shape.
+        // No disk has no sectors, so a device in shape turns this away for their length, which it
+        // tests after the shape.
         match device.line(&mut []) {
             Err(Error::WrongLength) => Ok(device),
             _ => Err(Error::OutOfShape),
@@ -356,7 +368,7 @@ impl Clone for Device {
 /// Shows the geometry alone: no password, no word of the buffer, no serial number.
 ///
 /// ```
-/// # let (disk, _) = include!(concat!(env!("CARGO_MANIFEST_DIR"), "/doctests/small_disk.rs"));
+/// # let (disk, _) = include!("../doctests/small_disk.rs");
 /// let shown = "Device { geometry: Geometry { cylinders: 4, heads: 2, sectors_per_track: 8 }, .. }";
 /// assert_eq!(format!("{disk:?}"), shown);
 /// ```

@@ -4,7 +4,8 @@ use std::fmt;
 
 /// What a call gives: what was asked for, or why it was turned away.
 ///
-/// A call that was turned away has changed nothing: neither the device nor a byte of the lent sectors.
+/// A call that was turned away has changed nothing: neither the device nor a byte of the lent
+/// sectors.
 pub type Answer<T> = Result<T, Error>;
 
 /// Why a call was turned away. Each has the number that the device's papers give it.
@@ -18,13 +19,15 @@ pub type Answer<T> = Result<T, Error>;
 #[derive(Clone, Copy, Debug, PartialEq, Eq, Hash)]
 #[non_exhaustive]
 pub enum Error {
-    /// 1: the register's number is 0 or above 8. A guest asked for a port that a disk does not have.
+    /// 1: the register's number is 0 or above 8. A guest asked for a port that a disk does not
+    /// have.
     NoSuchRegister,
     /// 2: the bytes are no device, or one in a state that no device comes to.
     OutOfShape,
     /// 3: the lent sectors are not 512 x capacity bytes.
     WrongLength,
-    /// 4: a data word was read or written and the device is not in the middle of a transfer that way.
+    /// 4: a data word was read or written and the device is not in the middle of a transfer that
+    /// way.
     NoTransfer,
     /// 6: setup was asked for a geometry, an identity or lengths outside the limits.
     SetupRefused,

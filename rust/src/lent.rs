@@ -1,7 +1,9 @@
-//! The library's ten calls as they are, over memory that the caller lends; all that is unsafe in this crate.
+//! The library's ten calls as they are, over memory that the caller lends; all that is unsafe in
+//! this crate.
 //!
-//! Most hosts want [`Device`](crate::Device), which keeps a device's bytes and gives typed answers. This is for a host
-//! that keeps them elsewhere, such as a page of its guest's saved state, and wants the papers' numbers:
+//! Most hosts want [`Device`](crate::Device), which keeps a device's bytes and gives typed answers.
+//! This is for a host that keeps them elsewhere, such as a page of its guest's saved state, and
+//! wants the papers' numbers:
 //!
 //! ```
 //! use thinnarom::lent::{setup, Lent, Reply, BUFFER_BYTES, STATE_BYTES};
@@ -16,23 +18,27 @@
 //! assert_eq!(disk.read_register(9), Reply { answer: 1, value: 0 });
 //! ```
 //!
-//! Every function here is safe for whatever bytes it is given: the library takes any bytes as a state and refuses what
-//! is no device, and it refuses a state or sectors of wrong length.
+//! Every function here is safe for whatever bytes it is given: the library takes any bytes as a
+//! state and refuses what is no device, and it refuses a state or sectors of wrong length.
 //!
 //! # Why each call is sound
 //!
-//! The library reads and writes the lent pieces and nothing else, keeps no pointer after it returns, and allocates
-//! nothing; that is proved of its code. What it needs from its caller holds because of the types here:
+//! The library reads and writes the lent pieces and nothing else, keeps no pointer after it
+//! returns, and allocates nothing; that is proved of its code. What it needs from its caller holds
+//! because of the types here:
 //!
-//! - each pointer is a slice's or an array's, handed over with that slice's length, or to exactly 512 bytes where the
-//!   call takes no length; so it is valid for as many bytes as the library may touch, and never null;
-//! - what the library writes to (state, buffer, sectors, the room for words) is borrowed mutably, so none of these
-//!   overlaps another or anything that it only reads, and no other thread looks at them during the call;
+//! - each pointer is a slice's or an array's, handed over with that slice's length, or to exactly
+//!   512 bytes where the call takes no length; so it is valid for as many bytes as the library may
+//!   touch, and never null;
+//! - what the library writes to (state, buffer, sectors, the room for words) is borrowed mutably,
+//!   so none of these overlaps another or anything that it only reads, and no other thread looks at
+//!   them during the call;
 //! - bytes have no alignment and no invalid values.
 
 #![allow(unsafe_code)]
 
-/// The bytes of a device's state. Which byte is what is a matter of the library's; docs/EMBEDDING.md has the table.
+/// The bytes of a device's state. Which byte is what is a matter of the library's;
+/// docs/EMBEDDING.md has the table.
 pub const STATE_BYTES: usize = 163;
 
 /// The bytes of the sector buffer.
@@ -45,8 +51,8 @@ pub const IDENTITY_BYTES: usize = 68;
 #[derive(Clone, Copy, Debug, PartialEq, Eq)]
 #[repr(C)]
 pub struct Reply {
-    /// 0 done, 1 no such register, 2 state out of shape, 3 sectors of wrong length, 4 no transfer that way, 6 setup
-    /// outside the limits.
+    /// 0 done, 1 no such register, 2 state out of shape, 3 sectors of wrong length, 4 no transfer
+    /// that way, 6 setup outside the limits.
     pub answer: u32,
     /// What was read, how many words have passed, or 0.
     pub value: u32,
@@ -109,11 +115,12 @@ mod library {
     }
 }
 
-/// Makes a disk just powered on, in `state` and `buffer`, from its three counts (cylinders, heads, sectors per track),
-/// the identity's 68 bytes and the master password's 32.
+/// Makes a disk just powered on, in `state` and `buffer`, from its three counts (cylinders, heads,
+/// sectors per track), the identity's 68 bytes and the master password's 32.
 ///
-/// Answer 2 where `state` is not [`STATE_BYTES`] long, and nothing has changed. Answer 6 for counts, bytes or lengths
-/// outside the limits: state and buffer are then all zero, which no other call takes for a device.
+/// Answer 2 where `state` is not [`STATE_BYTES`] long, and nothing has changed. Answer 6 for
+/// counts, bytes or lengths outside the limits: state and buffer are then all zero, which no other
+/// call takes for a device.
 pub fn setup(
     state: &mut [u8],
     buffer: &mut [u8; BUFFER_BYTES],
@@ -141,8 +148,8 @@ pub fn setup(
 /// Hands the three pieces over as pointers and lengths, then whatever else the call takes.
 macro_rules! call {
     ($lent:ident, $name:ident $(, $argument:expr)*) => {
-        // SAFETY: the pointers and lengths are those of three slices borrowed mutably for the call, the arguments
-        // numbers or another slice's pointer and length.
+        // SAFETY: the pointers and lengths are those of three slices borrowed mutably for the call,
+        // the arguments numbers or another slice's pointer and length.
         unsafe {
             library::$name(
                 $lent.state.as_mut_ptr(),
@@ -177,7 +184,8 @@ impl Lent<'_> {
         call!(self, thinnarom_write_word, w)
     }
 
-    /// Reads as many data words as `out` has room for, low byte first; the value is how many have passed.
+    /// Reads as many data words as `out` has room for, low byte first; the value is how many have
+    /// passed.
     pub fn read_words(&mut self, out: &mut [u8]) -> Reply {
         call!(self, thinnarom_read_words, out.as_mut_ptr(), out.len())
     }
@@ -203,7 +211,8 @@ impl Lent<'_> {
     }
 }
 
-/// Overwrites bytes with zeros, also where nothing reads them again and a plain write would be left out.
+/// Overwrites bytes with zeros, also where nothing reads them again and a plain write would be left
+/// out.
 pub(crate) fn wipe(bytes: &mut [u8]) {
     for byte in bytes {
         // SAFETY: a `&mut u8` is valid for a write of one byte.
@@ -223,8 +232,8 @@ mod tests {
         let memory = place.write(Memory::zeroed());
         memory.state.fill(0x5A);
         memory.buffer.fill(0xA5);
-        // SAFETY: the memory was written above and is not used as one again; its bytes stay where they are, and
-        // arrays of bytes have no padding between them, so all of them can be read.
+        // SAFETY: the memory was written above and is not used as one again; its bytes stay where
+        // they are, and arrays of bytes have no padding between them, so all of them can be read.
         let left = unsafe {
             place.as_mut_ptr().drop_in_place();
             std::slice::from_raw_parts(place.as_ptr().cast::<u8>(), size_of::<Memory>())

@@ -1,8 +1,9 @@
-//! The device end of one ATA-3 disk, for a host that emulates one: a safe crate over Thinnarom's static library, whose
-//! code is proved in Rattle.
+//! The device end of one ATA-3 disk, for a host that emulates one: a safe crate over Thinnarom's
+//! static library, whose code is proved in Rattle.
 //!
-//! The host keeps a [`Device`] and the disk's sectors. Whatever a guest does at the disk's ports, the host hands to
-//! the device, one call for each register and data word, and lends it the sectors:
+//! The host keeps a [`Device`] and the disk's sectors. Whatever a guest does at the disk's ports,
+//! the host hands to the device, one call for each register and data word, and lends it the
+//! sectors:
 //!
 //! ```
 //! use thinnarom::{Device, Geometry, Identity, Register, Setup};
@@ -43,15 +44,16 @@
 //!
 //! # What is proved, and what is not
 //!
-//! The library's calls always return, touch nothing but what is lent, and give just what ATA-3 and the house rules
-//! give; a guest that never sends a right password learns nothing of sectors and passwords (docs/ROOM.md of the
-//! repository). This crate and what the Rust compiler makes of it are not proved: they are small, and tested against an
-//! independent device. docs/EMBEDDING.md says what a host has to know, in C and in Rust.
+//! The library's calls always return, touch nothing but what is lent, and give just what ATA-3 and
+//! the house rules give; a guest that never sends a right password learns nothing of sectors and
+//! passwords (docs/ROOM.md of the repository). This crate and what the Rust compiler makes of it
+//! are not proved: they are small, and tested against an independent device. docs/EMBEDDING.md says
+//! what a host has to know, in C and in Rust.
 //!
 //! # Building
 //!
-//! The build links `target/staticlib/libthinnarom.a` of the repository, or the library whose absolute path stands in
-//! the environment variable `THINNAROM_LIBRARY`.
+//! The build links `target/staticlib/libthinnarom.a` of the repository, or the library whose
+//! absolute path stands in the environment variable `THINNAROM_LIBRARY`.
 
 #![deny(missing_docs)]
 #![deny(unsafe_code)]

@@ -7,8 +7,8 @@ use crate::Error;
 /// Three of them are something else when written, and have that name too: [`Register::Features`],
 /// [`Register::Command`] and [`Register::DeviceControl`].
 ///
-/// Calls take a `Register` or any `u8`, such as the number that a guest's port stands for: 0 and numbers
-/// above 8 are turned away with [`Error::NoSuchRegister`].
+/// Calls take a `Register` or any `u8`, such as the number that a guest's port stands for: 0 and
+/// numbers above 8 are turned away with [`Error::NoSuchRegister`].
 ///
 /// ```
 /// use thinnarom::{Error, Register};

@@ -10,10 +10,11 @@ pub const SECTOR_BYTES: usize = 512;
 /// The bytes of a password, all of them significant.
 pub const PASSWORD_BYTES: usize = 32;
 
-/// Everything that [`Device::new`](crate::Device::new) asks for. It borrows identity and password, so it makes no
-/// copy of the password that somebody would have to wipe.
+/// Everything that [`Device::new`](crate::Device::new) asks for. It borrows identity and password,
+/// so it makes no copy of the password that somebody would have to wipe.
 ///
-/// There is no default for the master password: whoever knows it opens a disk that is locked at level High.
+/// There is no default for the master password: whoever knows it opens a disk that is locked at
+/// level High.
 ///
 /// ```
 /// use thinnarom::{Device, Geometry, Identity, Setup};
@@ -46,7 +47,8 @@ impl fmt::Debug for Setup<'_> {
     }
 }
 
-/// The factory geometry: 1 to 1,024 cylinders, 1 to 16 heads, 1 to 63 sectors per track. Setup refuses other counts.
+/// The factory geometry: 1 to 1,024 cylinders, 1 to 16 heads, 1 to 63 sectors per track. Setup
+/// refuses other counts.
 #[derive(Clone, Copy, Debug, PartialEq, Eq, Hash)]
 pub struct Geometry {
     /// Cylinders, 1 to 1,024.
@@ -81,7 +83,8 @@ impl Geometry {
     }
 }
 
-/// Serial number, firmware revision and model, each byte 20h to 7Eh, as IDENTIFY DEVICE shows them to every guest.
+/// Serial number, firmware revision and model, each byte 20h to 7Eh, as IDENTIFY DEVICE shows them
+/// to every guest.
 #[derive(Clone, PartialEq, Eq)]
 pub struct Identity {
     /// Words 10 to 19 of IDENTIFY.
@@ -97,8 +100,9 @@ impl Identity {
     ///
     /// # Errors
     ///
-    /// [`Error::SetupRefused`] for a serial of more than 20 bytes, a firmware of more than 8 or a model of more than
-    /// 40. Bytes outside 20h to 7Eh are refused by [`Device::new`](crate::Device::new).
+    /// [`Error::SetupRefused`] for a serial of more than 20 bytes, a firmware of more than 8 or a
+    /// model of more than 40. Bytes outside 20h to 7Eh are refused by
+    /// [`Device::new`](crate::Device::new).
     ///
     /// ```
     /// use thinnarom::{Error, Identity};

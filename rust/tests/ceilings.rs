@@ -1,5 +1,5 @@
-//! The largest disk, 1,024 x 16 x 63, where every register of an address counts. Its half gigabyte is
-//! memory that the system hands out page by page as sectors are written.
+//! The largest disk, 1,024 x 16 x 63, where every register of an address counts. Its half gigabyte
+//! is memory that the system hands out page by page as sectors are written.
 
 mod common;
 

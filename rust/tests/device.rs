@@ -1,4 +1,5 @@
-//! What the crate adds to the library: types, copies, bytes that are kept, and what it does not show.
+//! What the crate adds to the library: types, copies, bytes that are kept, and what it does not
+//! show.
 
 use thinnarom::{Device, Error, Geometry, Identity, Register, Setup};
 

@@ -1,5 +1,5 @@
-//! The recordings written by hand, whose replies come from the papers: record by record, and with data
-//! words that stand side by side passed in bulk.
+//! The recordings written by hand, whose replies come from the papers: record by record, and with
+//! data words that stand side by side passed in bulk.
 
 mod common;
 

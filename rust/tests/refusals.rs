@@ -13,7 +13,8 @@ use thinnarom::lent::{setup, Lent, Reply, BUFFER_BYTES, IDENTITY_BYTES, STATE_BY
 const SEED: u64 = 3;
 const SECTORS: usize = 512 * 64;
 
-/// Disks that sessions come to, one for each transfer and lock state, over sectors that are not zero.
+/// Disks that sessions come to, one for each transfer and lock state, over sectors that are not
+/// zero.
 fn disks(random: &mut Random) -> Vec<Raw> {
     let disk = |state| Raw {
         state,

@@ -1,5 +1,6 @@
-//! A million states, in shape and out of it, lent to every call: the answer is 2 exactly where a judge
-//! written from the papers says so, a refused call changes nothing, and a state in shape stays so.
+//! A million states, in shape and out of it, lent to every call: the answer is 2 exactly where a
+//! judge written from the papers says so, a refused call changes nothing, and a state in shape
+//! stays so.
 
 mod common;
 

@@ -1,9 +1,11 @@
-//! A guest's end of the cable: what a driver does with registers and data words, on the disk that its host lets it use.
+//! A guest's end of the cable: what a driver does with registers and data words, on the disk that
+//! its host lets it use.
 
 use std::fmt::Debug;
 use thinnarom::{Answer, Device, Register, SECTOR_BYTES};
 
-/// What can end the story before its end: a call that was turned away, or an expectation that was not met.
+/// What can end the story before its end: a call that was turned away, or an expectation that was
+/// not met.
 pub type Step<T = ()> = Result<T, Box<dyn std::error::Error>>;
 
 pub const BLOCK_WORDS: usize = SECTOR_BYTES / 2;
@@ -111,8 +113,8 @@ impl Guest<'_> {
     }
 }
 
-/// The block that security commands take, for the user's password at level High: word 0 is zero, the password starts in
-/// word 1 and is filled up with zeros.
+/// The block that security commands take, for the user's password at level High: word 0 is zero,
+/// the password starts in word 1 and is filled up with zeros.
 pub fn password_block(password: &str) -> [u8; SECTOR_BYTES] {
     let mut block = [0; SECTOR_BYTES];
     block[2..2 + password.len()].copy_from_slice(password.as_bytes());

@@ -1,5 +1,6 @@
-//! The worked story: payment and then a fare plugin on one disk. What it prints is hosts/story.txt, to be read from top
-//! to bottom; every step is held to what is expected of it, and one that is not met ends the program.
+//! The worked story: payment and then a fare plugin on one disk. What it prints is hosts/story.txt,
+//! to be read from top to bottom; every step is held to what is expected of it, and one that is not
+//! met ends the program.
 
 mod guest;
 mod words;
@@ -67,7 +68,8 @@ impl Secrets {
     }
 }
 
-/// Where the story goes: silent while the plugin is given the second disk, where only the comparison counts.
+/// Where the story goes: silent while the plugin is given the second disk, where only the
+/// comparison counts.
 #[derive(Clone, Copy, PartialEq)]
 enum Story {
     Told,
@@ -315,11 +317,14 @@ impl Story {
                 self.resets(plugin)?;
             }
         }
+        let what = "READ BUFFER (E4h), for what is left of the last guess";
+        self.read_buffer(plugin, what)?;
         self.identify(plugin, 0x0017)?;
         self.resets(plugin)
     }
 
-    /// After five mismatches the disk takes no password block at all, so the right one can't even be sent.
+    /// After five mismatches the disk takes no password block at all, so the right one can't even
+    /// be sent.
     fn tries_the_right_one(self, plugin: &mut Guest) -> Step {
         let what = "SECURITY UNLOCK (F2h), with payment's own password in hand";
         self.run(plugin, UNLOCK, what, FAILED)?;
@@ -392,11 +397,11 @@ fn plugins_turn(disk: &mut Disk) -> Step {
     story.plugin_tries_everything(&mut plugin)?;
     let Guest { heard, words, .. } = plugin;
     story.say("\n5. What the plugin got, as the host sees it\n");
-    let given = format!("{words}: 3 x 256 of IDENTIFY DEVICE, 4 x 256 zeros of READ BUFFER");
+    let given = format!("{words}: 3 x 256 of IDENTIFY DEVICE, 5 x 256 zeros of READ BUFFER");
     story.tell("data words that it was given", &given);
     expect(
-        words == 7 * BLOCK_WORDS,
-        "the plugin was given seven blocks",
+        words == 8 * BLOCK_WORDS,
+        "the plugin was given eight blocks",
     )?;
     expect(disk.sectors == before, "the plugin changed no sector")?;
     story.tell("sectors that it changed", "none");

@@ -75,7 +75,8 @@ impl Action {
     }
 }
 
-/// An answer, a value, and for words that are read in bulk the whole room for them, before the call full of [`UNTOUCHED`].
+/// An answer, a value, and for words that are read in bulk the whole room for them, before the call
+/// full of [`UNTOUCHED`].
 #[derive(Debug, PartialEq, Eq)]
 pub struct Outcome {
     pub reply: Reply,
@@ -141,8 +142,8 @@ impl Single for second::Device {
     }
 }
 
-/// Bulk as the interface has it: one word after the other, up to the first that is turned away, which counts only where it
-/// is the first of all.
+/// Bulk as the interface has it: one word after the other, up to the first that is turned away,
+/// which counts only where it is the first of all.
 pub fn word_by_word(disk: &mut impl Single, action: &Action) -> Outcome {
     let mut room = match action {
         Action::ReadWords(length) => vec![UNTOUCHED; *length],

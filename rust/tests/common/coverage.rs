@@ -1,4 +1,5 @@
-//! What sessions have reached, told from the states before and after each action and not from what was meant.
+//! What sessions have reached, told from the states before and after each action and not from what
+//! was meant.
 
 use super::action::{Action, ACTIONS};
 use super::view::*;

@@ -1,5 +1,6 @@
-//! A guest that does all that guests do, in an order drawn from a seed. It looks at the state's bytes
-//! to know where the disk stands and what the right passwords are, so that few of its acts are idle.
+//! A guest that does all that guests do, in an order drawn from a seed. It looks at the state's
+//! bytes to know where the disk stands and what the right passwords are, so that few of its acts
+//! are idle.
 
 use super::action::Action;
 use super::coverage::Coverage;
@@ -538,7 +539,8 @@ fn by_lba(number: u32) -> [u8; 4] {
     [lowest, low, high, LBA | highest & 0x0F]
 }
 
-/// States that sessions on a small disk come to, one for each transfer and lock state that go together.
+/// States that sessions on a small disk come to, one for each transfer and lock state that go
+/// together.
 pub fn reached(seed: u64) -> Vec<State> {
     // Open, all nine; locked, none on sectors and no SET or DISABLE; frozen, no password's.
     const TOGETHER: usize = 9 + 5 + 5;

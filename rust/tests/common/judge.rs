@@ -1,12 +1,12 @@
-//! Whether a state is in shape, written from document 01's list ("Out of shape means") and the table of a state's bytes, and
-//! not from the library's sources.
+//! Whether a state is in shape, written from document 01's list ("Out of shape means") and the
+//! table of a state's bytes, and not from the library's sources.
 
 use super::view::*;
 
-/// The clauses of document 01's list, as far as the bytes can break them: they have no way to write a
-/// word place above 255, 0 or more than 256 sectors left, locked and frozen together, or a one-block
-/// command with more than one block left. The last five are what the table asks of the bytes, so that
-/// every device has just one form.
+/// The clauses of document 01's list, as far as the bytes can break them: they have no way to write
+/// a word place above 255, 0 or more than 256 sectors left, locked and frozen together, or a
+/// one-block command with more than one block left. The last five are what the table asks of the
+/// bytes, so that every device has just one form.
 #[derive(Clone, Copy, Debug, PartialEq, Eq)]
 pub enum Clause {
     GeometryOutsideTheLimits,
@@ -134,8 +134,8 @@ fn geometry_fits(counts: Counts) -> bool {
         && (1..=63).contains(&counts.sectors)
 }
 
-/// "S = Sector Count 1 to 255, H = head nibble + 1, cylinders = capacity / (H x S) rounded down, at most 65,535; abort if S
-/// or cylinders is 0."
+/// "S = Sector Count 1 to 255, H = head nibble + 1, cylinders = capacity / (H x S) rounded down, at
+/// most 65,535; abort if S or cylinders is 0."
 pub fn made_by_91h(capacity: u32, heads: u32, sectors: u32) -> Option<Counts> {
     if !(1..=16).contains(&heads) || !(1..=255).contains(&sectors) {
         return None;
@@ -154,9 +154,9 @@ fn translation_allowed(state: &State) -> bool {
     made_by_91h(capacity, counts.heads, counts.sectors) == Some(counts)
 }
 
-/// The sector that a sector transfer stands on. "LBA (Device/Head bit 6): 28 bits, Sector Number lowest, head nibble
-/// highest, below capacity. CHS: (c x H + h) x S + s - 1 in the current translation, s from 1 to S, h below H, c below
-/// cylinders."
+/// The sector that a sector transfer stands on. "LBA (Device/Head bit 6): 28 bits, Sector Number
+/// lowest, head nibble highest, below capacity. CHS: (c x H + h) x S + s - 1 in the current
+/// translation, s from 1 to S, h below H, c below cylinders."
 pub fn current_sector(state: &State) -> Option<u32> {
     let [number, low, high, device_head] = state[CURRENT].try_into().unwrap();
     let cylinder = u32::from(u16::from_le_bytes([low, high]));

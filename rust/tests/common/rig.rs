@@ -1,5 +1,6 @@
-//! Three disks side by side: the crate's device, the library's bytes with every word passed alone, and the second program's.
-//! Each action is done to all three, and whatever can be seen of them is compared.
+//! Three disks side by side: the crate's device, the library's bytes with every word passed alone,
+//! and the second program's. Each action is done to all three, and whatever can be seen of them is
+//! compared.
 
 use super::action::{on_device, word_by_word, Action, Outcome, Raw};
 use super::coverage::Coverage;
@@ -139,7 +140,8 @@ impl Rig {
         );
     }
 
-    /// State and buffer are those of both ways to call the library, and the sectors those of all three.
+    /// State and buffer are those of both ways to call the library, and the sectors those of all
+    /// three.
     fn still_one_disk(&self, action: &Action) {
         let bytes = self.device.to_bytes();
         let (done, state) = (self.done, &self.raw.state);
@@ -194,7 +196,8 @@ impl Rig {
         }
     }
 
-    /// Looks at all that a guest can look at, on copies, so that nothing hidden stays different for long.
+    /// Looks at all that a guest can look at, on copies, so that nothing hidden stays different for
+    /// long.
     pub fn examine(&self) {
         let (mut copies, mut uncounted) = (self.clone(), Coverage::default());
         let mut act = |action| copies.act(&action, &mut uncounted);
