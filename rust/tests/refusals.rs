@@ -77,7 +77,6 @@ fn refused(
 fn all_register_numbers_in_every_transfer_and_lock_state() {
     let random = &mut Random::new(SEED, 0);
     let disks = disks(random);
-    assert_eq!(disks.len(), 19);
     for disk in disks {
         for n in 0..=255 {
             for action in [

@@ -36,6 +36,7 @@ fn geometry(random: &mut Random) -> Geometry {
 
 /// A session, and another way to go on from somewhere in its middle, from the bytes kept there.
 fn session(number: u64) -> Coverage {
+    println!("session {number} of seed {SEED}");
     let mut random = Random::new(SEED, number);
     let geometry = geometry(&mut random);
     let rig = Rig::new(geometry, &mut random);

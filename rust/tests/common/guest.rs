@@ -15,6 +15,8 @@ pub struct Guest {
     pub rig: Rig,
     pub random: Random,
     pub coverage: Coverage,
+    /// The last state with each transfer and lock state.
+    reached: BTreeMap<(u8, u8), State>,
 }
 
 /// How words of a transfer are passed.
@@ -29,8 +31,9 @@ enum Carrying {
 type Script = fn(&mut Guest);
 
 /// How likely each script is.
-const SCRIPTS: [(usize, Script); 16] = [
+const SCRIPTS: [(usize, Script); 17] = [
     (16, Guest::move_sectors),
+    (1, Guest::move_256_sectors),
     (6, Guest::cut_sectors),
     (4, Guest::command_on_sectors),
     (5, Guest::translate),
@@ -54,6 +57,7 @@ impl Guest {
             rig,
             random,
             coverage: Coverage::default(),
+            reached: BTreeMap::new(),
         }
     }
 
@@ -78,7 +82,10 @@ impl Guest {
     // Acts.
 
     fn act(&mut self, action: Action) -> Reply {
-        self.rig.act(&action, &mut self.coverage)
+        let reply = self.rig.act(&action, &mut self.coverage);
+        let state = *self.rig.state();
+        self.reached.insert((state[KIND], state[LOCK]), state);
+        reply
     }
 
     fn write(&mut self, register: u8, value: u8) {
@@ -272,6 +279,23 @@ impl Guest {
         self.command(code);
         self.carry(65_536 + 1);
         self.look();
+    }
+
+    /// The longest transfer that there is, by one call, where the disk has as many sectors.
+    fn move_256_sectors(&mut self) {
+        let Some(most) = capacity(self.rig.state()).checked_sub(256) else {
+            return;
+        };
+        let first = self.random.below(most + 1) as u32;
+        let [sector, low, high, head] = by_lba(first);
+        for (register, value) in (2..).zip([0, sector, low, high, head]) {
+            self.write(register, value);
+        }
+        let code = self.random.pick(&[0x20, 0x30]);
+        self.command(code);
+        if !self.is(KIND, IDLE) {
+            self.pass(65_536, true);
+        }
     }
 
     fn cut_sectors(&mut self) {
@@ -544,26 +568,19 @@ fn by_lba(number: u32) -> [u8; 4] {
 pub fn reached(seed: u64) -> Vec<State> {
     // Open, all nine; locked, none on sectors and no SET or DISABLE; frozen, no password's.
     const TOGETHER: usize = 9 + 5 + 5;
+    let geometry = Geometry {
+        cylinders: 4,
+        heads: 2,
+        sectors_per_track: 8,
+    };
     let mut found = BTreeMap::new();
-    for number in 0.. {
+    for number in 0..10 {
         let mut random = Random::new(seed, number);
-        let rig = Rig::new(
-            Geometry {
-                cylinders: 4,
-                heads: 2,
-                sectors_per_track: 8,
-            },
-            &mut random,
-        );
+        let rig = Rig::new(geometry, &mut random);
         let mut guest = Guest::new(rig, random);
-        for _ in 0..40 {
-            guest.play();
-            let state = *guest.rig.state();
-            found.entry((state[KIND], state[LOCK])).or_insert(state);
-        }
-        if found.len() == TOGETHER {
-            break;
-        }
+        (0..40).for_each(|_| guest.play());
+        found.extend(guest.reached);
     }
+    assert_eq!(found.len(), TOGETHER, "{:?}", found.keys());
     found.into_values().collect()
 }
