@@ -43,8 +43,9 @@ def functions(path):
             owner = re.match(r'impl (\w+)', line).group(1) + '::'
         m = re.match(r'( *)(pub(?:\(\w+\))? )?(?:const )?(?:extern "C" )?fn (\w+)', line)
         if m:
-            # its body ends at the first brace that closes at its own indent, or on its first line
-            ends = (i for i in range(first, len(lines)) if lines[i] == m.group(1) + '}' or i == first and line.endswith('}'))
+            # its body ends at the first brace that closes at its own indent, or on its first line; a declaration of C's has none
+            end = re.compile(re.escape(m.group(1)) + r'(\}|\).*;)$')
+            ends = (i for i in range(first, len(lines)) if end.match(lines[i]) or i == first and line.endswith('}'))
             last = next(ends)
             required = any(re.match(r' *requires', lines[i]) for i in range(first, last))
             yield (owner if m.group(1) else '') + m.group(3), last - first + 1, bool(m.group(2)), required
@@ -66,7 +67,7 @@ def lengths():
     """(name, lines) of each function: the crates', the Rust packages', the C hosts' and the scripts'."""
     for name, lines, _, _ in all_functions():
         yield name, lines
-    for path in glob.glob('second/**/*.rs', recursive=True) + glob.glob('differential/**/*.rs', recursive=True):
+    for path in [path for package in ('second', 'differential', 'rust') for path in glob.glob(f'{package}/**/*.rs', recursive=True)]:
         for name, lines, _, _ in functions(path):
             yield f'{path}: {name}', lines
     for path in glob.glob('include/*.h') + glob.glob('hosts/**/*.[ch]', recursive=True):
