@@ -3,7 +3,7 @@ ghost use mathlib.Core.Path.{_≡_};
 ghost use Prim.Native.Nat.{_+_, _*_, _≤_};
 ghost use lib.ListN.{length, take, drop};
 ghost use lib.Seq.{sets};
-ghost use Rattle.layout.specs.Stored.{addressStored, registersStored, markStored, signalsStored, runStored, blockOf, transferStored, hotStored, geometryStored, translationStored, lockStored, securityStored, identityStored, settledStored, secretsStored, deviceStored, markFormed, marksFormed, noRunStored, transferFormed, formedOf};
+ghost use Rattle.layout.specs.Stored.{addressStored, registersStored, markStored, signalsStored, runStored, blockOf, transferStored, hotStored, geometryStored, translationStored, lockStored, securityStored, identityStored, settledStored, deviceStored, marksFormed, noRunStored, transferFormed, formedOf};
 ghost use Rattle.layout.specs.Bytes.{markByte, runBytes, placeBytes, purposeKind, transferBytes, hotBytes, lockByte, numberBytes, stateOf};
 use address::AddressRegisters;
 use device::Device;
@@ -257,22 +257,6 @@ pub fn password_at(bytes: &[u8], at: usize) -> [u8; 32]
     password
 }
 
-// Bytes 99 to 162.
-fn secrets_at(state: &[u8]) -> Secrets
-    requires { ⌜ length (now state) ≡ 163 ⌝ }
-    ensures { λ r. ⌜ r ≡ secretsStored (now (state .entry)) ⌝ }
-{
-    let user = password_at(state, 99);
-    let master = password_at(state, 131);
-    Secrets { user, master }
-}
-
-fn block_of(buffer: &[u8; 512]) -> [u8; 512]
-    ensures { λ r. ⌜ r ≡ now (buffer .entry) ⌝ }
-{
-    *buffer
-}
-
 // The device that state and buffer hold.
 pub fn device_at(state: &[u8], buffer: &[u8; 512]) -> Device
     requires { ⌜ length (now state) ≡ 163 ⌝ }
@@ -280,33 +264,29 @@ pub fn device_at(state: &[u8], buffer: &[u8; 512]) -> Device
 {
     let hot = hot_at(state);
     let settled = settled_at(state);
-    let buffer = block_of(buffer);
+    let buffer = *buffer;
     let face = Face {
         hot,
         settled,
         buffer,
     };
-    let secrets = secrets_at(state);
+    let user = password_at(state, 99);
+    let master = password_at(state, 131);
+    let secrets = Secrets { user, master };
     Device { face, secrets }
-}
-
-fn marked(byte: u8) -> bool
-    ensures { λ r. ⌜ r ≡ markFormed byte ⌝ }
-{
-    byte < 2
 }
 
 fn marks_fit(state: &[u8]) -> bool
     requires { ⌜ length (now state) ≡ 163 ⌝ }
     ensures { λ r. ⌜ r ≡ marksFormed (now (state .entry)) ⌝ }
 {
-    marked(state[7])
-        & marked(state[8])
-        & marked(state[9])
-        & marked(state[10])
-        & marked(state[27])
-        & marked(state[28])
-        & marked(state[30])
+    (state[7] < 2)
+        & (state[8] < 2)
+        & (state[9] < 2)
+        & (state[10] < 2)
+        & (state[27] < 2)
+        & (state[28] < 2)
+        & (state[30] < 2)
 }
 
 fn no_run(state: &[u8]) -> bool
@@ -523,12 +503,6 @@ fn put_secrets(state: &mut [u8], secrets: Secrets)
     put_password(state, 131, master);
 }
 
-fn put_block(buffer: &mut [u8; 512], block: [u8; 512])
-    ensures { λ _. ⌜ now (buffer .exit) ≡ block ⌝ }
-{
-    *buffer = block;
-}
-
 // State and buffer become the device's.
 pub fn put_device(state: &mut [u8], buffer: &mut [u8; 512], device: Device)
     requires { ⌜ length (now state) ≡ 163 ⌝ }
@@ -542,5 +516,5 @@ pub fn put_device(state: &mut [u8], buffer: &mut [u8; 512], device: Device)
     put_identity(state, settled.identity);
     put_secrets(state, secrets);
     let block = face.buffer;
-    put_block(buffer, block);
+    *buffer = block;
 }

@@ -9,16 +9,21 @@ hot-at-requires c κs = search needs
 settled-at-requires : tie.Need-settled-at-requires
 settled-at-requires c κs = search needs
 
-block-of-requires : tie.Need-block-of-requires
-block-of-requires c κs = search needs
+password-at-requires : tie.Need-password-at-requires
+password-at-requires c κs = search needs
 
-secrets-at-requires : tie.Need-secrets-at-requires
-secrets-at-requires c κs = search needs
+password-at-requires-2 : tie.Need-password-at-requires-2
+password-at-requires-2 c κs = search needs
 
 returns : tie.Need-returns
-returns c = simp (c .secrets-at .ensures, c .before .block-of .ensures, c .before .before .settled-at .ensures, c .before .before .before .hot-at .ensures)
+returns c = simp (c .password-at2 .ensures, c .before .password-at .ensures, c .before .before .before .settled-at .ensures, c .before .before .before .before .hot-at .ensures)
 
 pub device-at-spec : {M : Type 1} → statement M
 device-at-spec =
     tie.close
-    (tie.spec hot-at-requires settled-at-requires block-of-requires secrets-at-requires returns)
+    (tie.spec
+    hot-at-requires
+    settled-at-requires
+    password-at-requires
+    password-at-requires-2
+    returns)
