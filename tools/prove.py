@@ -15,6 +15,7 @@ Left is a need, or a pattern that names several; right its answer, which may go 
   unfolding A B;   the definitions that the answer opens
   {thing}          the path, at that need, to what a call, a test, a loop or an arm told: `c .before .thing`
   {path}           `simp` over all that the calls, tests and arms on the way to that need told
+  {steps}          `rw` by the same, one after the other, where there is too much for `simp` to look through
   @name            what the recipe says under `@name`, for a term that several answers share; it may name others
 Needs without an answer get `search needs`. For a loop, `Inv-loop` and `μ-loop` are answered too.
 
@@ -224,6 +225,9 @@ class Proof:
     def path(self):
         return f'crates/{self.crate}/proofs/{self.function}/Proof.antt'
 
+    def steps(self, need):
+        return 'rw (' + ', '.join(fact.removeprefix('← ') for fact in self.known.told(need, self.calls)) + ')'
+
     def told(self, need):
         """What the way to the need told, less what an earlier check found unused."""
         facts, unused = self.known.told(need, self.calls), self.unused.get(need, [])
@@ -242,6 +246,8 @@ class Proof:
             opened, answer = f'unfolding {m.group(1).strip()}\n', answer[m.end():]
         if '{path}' in answer:
             answer = answer.replace('{path}', self.told(need))
+        if '{steps}' in answer:
+            answer = answer.replace('{steps}', self.steps(need))
         answer = re.sub(r'\{([\w-]+)\}', lambda m: self.known.path(need, m.group(1)), answer)
         return f'{opened}{head} = {answer}'
 
