@@ -1,20 +1,22 @@
 -- What the loops over blocks come to, in terms of single words.
-use Prim.Native.Nat.{ℕ, _*_, _/_, _≤_}
+use Prim.Native.Nat.{ℕ, _+_, _*_, _/_, _≤_, _<_}
 use mathlib.Core.Path.{_≡_}
+use mathlib.Core.Bool.{false}
+use mathlib.Core.Logic.{_⊎_}
 use mathlib.Core.List.{List}
 use lib.ListN.{length, take, drop}
 use Rattle.lock.specs.declared.Secrets.{Secrets}
 use Rattle.settled.specs.declared.Settled.{Settled}
 use Rattle.face.specs.declared.Hot.{Hot}
-use Rattle.face.specs.declared.Face.{Face}
 use Rattle.device.specs.Alone.{aloneOf, deviceOf}
 use Rattle.device.specs.declared.Device.{Device}
+use Rattle.words.specs.Blocks.{faceWith, takesHere}
 use Rattle.words.specs.Words.{Handed, readWordsOf, Taken, takenBehind, writeWordsOf, wordsIn}
 use Rattle.words.specs.declared.Passed.{Passed}
 
 -- a device of these parts
 abbrev pub deviceWith : Hot → Settled → List ℕ → Secrets → Device
-deviceWith h s b x = deviceOf (record { hot = h; settled = s; buffer = b }) x
+deviceWith h s b x = deviceOf (faceWith h s b) x
 
 -- the words that single reads give, whatever the passwords are: r is where they lead, `after` the buffer, `out` the bytes lent for them
 pub record Reads (h : Hot) (s : Settled) (b m out : List ℕ) (r : Passed) (after written : List ℕ) : Type 0 where
@@ -30,3 +32,4 @@ pub record Writes (h : Hot) (s : Settled) (b m bytes : List ℕ) (r : Passed) (a
       ≡ takenBehind (r .words) (writeWordsOf aloneOf (wordsIn (drop (2 * r .words) bytes)) (deviceWith (r .hot) s after x) m')
   pub below : 2 * r .words ≤ length bytes
   pub long : length m' ≡ length m
+  pub stopped : (length bytes < 2 * r .words + 2) ⊎ (takesHere (r .hot .transfer) ≡ false)

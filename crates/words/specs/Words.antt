@@ -52,4 +52,4 @@ writeWordsOf r (w ∷ l) d m =
 unfoldable pub wordsIn : List ℕ → List ℕ
 wordsIn [] = []
 wordsIn (x ∷ []) = []
-wordsIn (x ∷ y ∷ l) = x + 256 * y ∷ wordsIn l
+wordsIn (x ∷ y ∷ l) = (x + 256 * y) ∷ wordsIn l

@@ -1,4 +1,13 @@
 // Data words in bulk: as many words as a transfer passes, a block at a time.
+ghost use mathlib.Core.Path.{_≡_};
+ghost use Prim.Native.Nat.{_≤_, min};
+ghost use Rattle.transfers.specs.Sectors.{Memory};
+ghost use Rattle.reading.specs.Sectors.{readAt};
+ghost use Rattle.reading.specs.Words.{readNextOf, readWordAs};
+ghost use Rattle.writing.specs.Words.{wantAt, writeNextOf, writeLastOf, writeLastSectors};
+ghost use Rattle.glance.specs.Places.{placedAt, hotAt};
+ghost use Rattle.words.specs.Blocks.{faceWith, readUpTo, takesTo, writtenUpTo, storedUpTo, Moved, Reach};
+ghost use Rattle.words.specs.Bulk.{Reads, Writes};
 use address::Address;
 use face::Hot;
 use face::Run;
@@ -11,96 +20,52 @@ pub struct Passed {
     pub words: usize,
 }
 
-// Where the words end that the block has to hand out: none, where it hands out none.
-fn hands_to(transfer: Transfer) -> usize {
-    match transfer {
-        Transfer::Idle => 0,
-        Transfer::Reading(r) => 256,
-        Transfer::Writing(r) => 0,
-        Transfer::ReadingBuffer(n) => 256,
-        Transfer::WritingBuffer(n) => 0,
-        Transfer::TakingPassword(b) => 0,
-    }
-}
-
-// Where the words end that the block takes in here. A password block's last word is judged, which takes more of the device.
-fn takes_to(transfer: Transfer) -> usize {
-    match transfer {
-        Transfer::Idle => 0,
-        Transfer::Reading(r) => 0,
-        Transfer::Writing(r) => 256,
-        Transfer::ReadingBuffer(n) => 0,
-        Transfer::WritingBuffer(n) => 256,
-        Transfer::TakingPassword(b) => 255,
-    }
-}
-
-fn least(a: usize, b: usize) -> usize {
+fn least(a: usize, b: usize) -> usize
+    ensures { λ r. ⌜ r ≡ min a b ⌝ }
+{
     if a < b {
         return a;
     }
     b
 }
 
-// Words of the block from `place` on are handed out.
-fn hand_out(buffer: &[u8; 512], place: usize, out: &mut [u8], put: usize, count: usize) {
-    let from = 2 * place;
-    let size = 2 * count;
+fn copy(from: &[u8], at: usize, to: &mut [u8], put: usize, size: usize)
+    requires { ⌜ Reach (now from) at (now to) put size ⌝ }
+    ensures { λ _. ⌜ Moved (now (from .entry)) at (now (to .entry)) put size (now (to .exit)) ⌝ }
+{
     let mut moved = 0;
     while moved < size {
-        out[put + moved] = buffer[from + moved];
+        to[put + moved] = from[at + moved];
         moved += 1;
-    }
-}
-
-// Words are taken into the block from `place` on.
-fn take_in(buffer: &mut [u8; 512], place: usize, words: &[u8], at: usize, count: usize) {
-    let to = 2 * place;
-    let size = 2 * count;
-    let mut moved = 0;
-    while moved < size {
-        buffer[to + moved] = words[at + moved];
-        moved += 1;
-    }
-}
-
-// The buffer becomes sector n of the memory.
-fn refill(buffer: &mut [u8; 512], sectors: &[u8], n: u32) {
-    let at = 512 * (n as usize);
-    let mut loaded = 0;
-    while loaded < 512 {
-        buffer[loaded] = sectors[at + loaded];
-        loaded += 1;
-    }
-}
-
-// Sector n of the memory becomes the buffer.
-fn store(buffer: &[u8; 512], sectors: &mut [u8], n: u32) {
-    let at = 512 * (n as usize);
-    let mut stored = 0;
-    while stored < 512 {
-        sectors[at + stored] = buffer[stored];
-        stored += 1;
     }
 }
 
 // The hot part with the next word at another place.
-fn placed(hot: Hot, word: u8) -> Hot {
+fn placed(hot: Hot, word: u8) -> Hot
+    ensures { λ r. ⌜ r ≡ hotAt hot word (hot .signals .raised) ⌝ }
+{
     glance::hot_at(hot, word, hot.signals.raised)
 }
 
 // A sector to be read is reached.
-fn read_at(hot: Hot, settled: Settled, run: Run, buffer: &mut [u8; 512], sectors: &[u8]) -> Hot {
+fn read_at(hot: Hot, settled: Settled, run: Run, buffer: &mut [u8; 512], sectors: &[u8]) -> Hot
+    requires { ⌜ Memory (settled .geometry) (settled .translation) (now sectors) ⌝ }
+    ensures { λ r. ⌜ faceWith r settled (now (buffer .exit)) ≡ readAt (faceWith hot settled (now (buffer .entry))) (now (sectors .entry)) run ⌝ }
+{
     let at = run.at;
     let Address::Names(sector) = transfers::located(settled, at) else {
         return transfers::missed(hot, run);
     };
-    refill(buffer, sectors, sector.number);
+    let block = block::load(sectors, sector.number);
+    *buffer = block;
     hot.raised(Transfer::Reading(run))
 }
 
 // The last word of a sector has been read.
-fn read_next(hot: Hot, settled: Settled, run: Run, buffer: &mut [u8; 512], sectors: &[u8]) -> Hot {
+fn read_next(hot: Hot, settled: Settled, run: Run, buffer: &mut [u8; 512], sectors: &[u8]) -> Hot
+    requires { ⌜ Memory (settled .geometry) (settled .translation) (now sectors) ⌝ }
+    ensures { λ r. ⌜ faceWith r settled (now (buffer .exit)) ≡ readNextOf (faceWith hot settled (now (buffer .entry))) (now (sectors .entry)) run ⌝ }
+{
     let at = run.at;
     if 0 < run.after {
         let translation = settled.translation;
@@ -111,7 +76,10 @@ fn read_next(hot: Hot, settled: Settled, run: Run, buffer: &mut [u8; 512], secto
 }
 
 // The last word of a block has been read.
-fn read_last(hot: Hot, settled: Settled, buffer: &mut [u8; 512], sectors: &[u8]) -> Hot {
+fn read_last(hot: Hot, settled: Settled, buffer: &mut [u8; 512], sectors: &[u8]) -> Hot
+    requires { ⌜ Memory (settled .geometry) (settled .translation) (now sectors) ⌝ }
+    ensures { λ r. ⌜ faceWith r settled (now (buffer .exit)) ≡ readWordAs (faceWith hot settled (now (buffer .entry))) (now (sectors .entry)) (placedAt (hot .transfer) 255) .face ⌝ }
+{
     let transfer = hot.transfer;
     match transfer {
         Transfer::Idle => hot,
@@ -124,7 +92,10 @@ fn read_last(hot: Hot, settled: Settled, buffer: &mut [u8; 512], sectors: &[u8])
 }
 
 // Words up to that place have been read.
-fn read_to(hot: Hot, place: usize, settled: Settled, buffer: &mut [u8; 512], sectors: &[u8]) -> Hot {
+fn read_to(hot: Hot, place: usize, settled: Settled, buffer: &mut [u8; 512], sectors: &[u8]) -> Hot
+    requires { ⌜ Memory (settled .geometry) (settled .translation) (now sectors) ⌝ }
+    ensures { λ r. ⌜ faceWith r settled (now (buffer .exit)) ≡ readUpTo (faceWith hot settled (now (buffer .entry))) (now (sectors .entry)) place ⌝ }
+{
     if place < 256 {
         return placed(hot, place as u8);
     }
@@ -138,17 +109,19 @@ pub fn read_words(
     buffer: &mut [u8; 512],
     sectors: &[u8],
     out: &mut [u8],
-) -> Passed {
+) -> Passed
+    requires { ⌜ Memory (settled .geometry) (settled .translation) (now sectors) ⌝ }
+    ensures { λ r. ⌜ Reads hot settled (now (buffer .entry)) (now (sectors .entry)) (now (out .entry)) r (now (buffer .exit)) (now (out .exit)) ⌝ }
+{
     let mut hot = hot;
     let mut words = 0;
     let wanted = out.len() / 2;
     while words < wanted {
         let transfer = hot.transfer;
-        let place = glance::place_of(hot) as usize;
-        let end = hands_to(transfer);
-        if place < end {
-            let count = least(end - place, wanted - words);
-            hand_out(buffer, place, out, 2 * words, count);
+        if glance::hands_out(transfer) {
+            let place = glance::place_of(hot) as usize;
+            let count = least(256 - place, wanted - words);
+            copy(&buffer[..], 2 * place, out, 2 * words, 2 * count);
             hot = read_to(hot, place + count, settled, buffer, sectors);
             words = words + count;
         } else {
@@ -178,17 +151,36 @@ fn write_next(hot: Hot, settled: Settled, run: Run) -> Hot {
 }
 
 // The last word of a sector has arrived: it is stored.
-fn write_last(hot: Hot, settled: Settled, run: Run, buffer: &[u8; 512], sectors: &mut [u8]) -> Hot {
+fn write_last(hot: Hot, settled: Settled, run: Run, buffer: &[u8; 512], sectors: &mut [u8]) -> Hot
+    requires { ⌜ Memory (settled .geometry) (settled .translation) (now sectors) ⌝ }
+{
     let at = run.at;
     let Address::Names(sector) = transfers::located(settled, at) else {
         return transfers::missed(hot, run);
     };
-    store(buffer, sectors, sector.number);
+    let block = *buffer;
+    block::store(sectors, sector.number, block);
     write_next(hot, settled, run)
 }
 
+// Where the words end that the block takes in here. A password block's last word is judged, which takes more of the device.
+fn takes_to(transfer: Transfer) -> usize
+    ensures { λ r. ⌜ r ≡ takesTo transfer ⌝ }
+{
+    match transfer {
+        Transfer::Idle => 0,
+        Transfer::Reading(r) => 0,
+        Transfer::Writing(r) => 256,
+        Transfer::ReadingBuffer(n) => 0,
+        Transfer::WritingBuffer(n) => 256,
+        Transfer::TakingPassword(b) => 255,
+    }
+}
+
 // Words up to that place have arrived.
-fn write_to(hot: Hot, place: usize, settled: Settled, buffer: &[u8; 512], sectors: &mut [u8]) -> Hot {
+fn write_to(hot: Hot, place: usize, settled: Settled, buffer: &[u8; 512], sectors: &mut [u8]) -> Hot
+    requires { ⌜ Memory (settled .geometry) (settled .translation) (now sectors) ⌝ }
+{
     if place < 256 {
         return placed(hot, place as u8);
     }
@@ -210,7 +202,9 @@ pub fn write_words(
     buffer: &mut [u8; 512],
     sectors: &mut [u8],
     bytes: &[u8],
-) -> Passed {
+) -> Passed
+    requires { ⌜ Memory (settled .geometry) (settled .translation) (now sectors) ⌝ }
+{
     let mut hot = hot;
     let mut words = 0;
     let wanted = bytes.len() / 2;
@@ -220,7 +214,7 @@ pub fn write_words(
         let end = takes_to(transfer);
         if place < end {
             let count = least(end - place, wanted - words);
-            take_in(buffer, place, bytes, 2 * words, count);
+            copy(bytes, 2 * words, buffer, 2 * place, 2 * count);
             hot = write_to(hot, place + count, settled, buffer, sectors);
             words = words + count;
         } else {
