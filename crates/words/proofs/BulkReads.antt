@@ -128,7 +128,7 @@ from-last b (suc k) p =
     let e : p + 1 + k ≡ p + suc k = omega arith in
     ap (λ (l : List ℕ). wordAt b p ∷ l) (from-last b k (p + 1) ∙ ap (λ (i : ℕ). wordsFrom b (p + 1) k ++ (wordAt b i ∷ [])) e)
 
-behind-behind : (l q : List ℕ) (h : Handed) → handsBehind l (handsBehind q h) ≡ handsBehind (l ++ q) h
+pub behind-behind : (l q : List ℕ) (h : Handed) → handsBehind l (handsBehind q h) ≡ handsBehind (l ++ q) h
 behind-behind l q h = ap (λ (w : List ℕ). record { words = w; device = h .device; sectors = h .sectors }) (sym (append-assoc l q (h .words)))
 
 -- from where the transfer stands up to a place in the block
@@ -154,7 +154,7 @@ words-whole h s b x m o k n p e g =
     (ap (λ (i : ℕ). wordsFrom b p k ++ (wordAt b i ∷ [])) (sym g) ∙ sym (from-last b k p))
 
 -- either
-words-up-to : (h : Hot) (s : Settled) (b : List ℕ) (x : Secrets) (m : List ℕ) → handsOut (h .transfer) ≡ true
+pub words-up-to : (h : Hot) (s : Settled) (b : List ℕ) (x : Secrets) (m : List ℕ) → handsOut (h .transfer) ≡ true
     → (k n p : ℕ) → p ≡ placeOf (h .transfer) → p < 256 → p + k ≤ 256
     → readWordsOf aloneOf (k + n) (deviceWith h s b x) m
     ≡ handsBehind (wordsFrom b p k) (readWordsOf aloneOf n (deviceOf (readUpTo (faceWith h s b) m (p + k)) x) m)

@@ -1,3 +1,4 @@
 pub mod Moving
 pub mod Bytes
 pub mod BulkReads
+pub mod ReadLoop
