@@ -1,6 +1,7 @@
 // Data words in bulk: as many words as a transfer passes, a block at a time.
 ghost use mathlib.Core.Path.{_≡_};
-ghost use Prim.Native.Nat.{_≤_, min};
+ghost use mathlib.Core.List.{List};
+ghost use Prim.Native.Nat.{ℕ, min};
 ghost use Rattle.transfers.specs.Sectors.{Memory};
 ghost use Rattle.reading.specs.Sectors.{readAt};
 ghost use Rattle.reading.specs.Words.{readNextOf, readWordAs};
@@ -132,7 +133,9 @@ pub fn read_words(
 }
 
 // A sector to be written after the first is reached.
-fn want_at(hot: Hot, settled: Settled, run: Run) -> Hot {
+fn want_at(hot: Hot, settled: Settled, run: Run) -> Hot
+    ensures { λ r. ⌜ ((b : List ℕ) → faceWith r settled b ≡ wantAt (faceWith hot settled b) run) ⌝ }
+{
     let at = run.at;
     let Address::Names(sector) = transfers::located(settled, at) else {
         return transfers::missed(hot, run);
@@ -141,7 +144,9 @@ fn want_at(hot: Hot, settled: Settled, run: Run) -> Hot {
 }
 
 // A sector has been stored.
-fn write_next(hot: Hot, settled: Settled, run: Run) -> Hot {
+fn write_next(hot: Hot, settled: Settled, run: Run) -> Hot
+    ensures { λ r. ⌜ ((b : List ℕ) → faceWith r settled b ≡ writeNextOf (faceWith hot settled b) run) ⌝ }
+{
     let at = run.at;
     if 0 < run.after {
         let translation = settled.translation;
@@ -153,6 +158,7 @@ fn write_next(hot: Hot, settled: Settled, run: Run) -> Hot {
 // The last word of a sector has arrived: it is stored.
 fn write_last(hot: Hot, settled: Settled, run: Run, buffer: &[u8; 512], sectors: &mut [u8]) -> Hot
     requires { ⌜ Memory (settled .geometry) (settled .translation) (now sectors) ⌝ }
+    ensures { λ r. ⌜ (faceWith r settled (now (buffer .entry)) ≡ writeLastOf (faceWith hot settled (now (buffer .entry))) run) × (now (sectors .exit) ≡ writeLastSectors (faceWith hot settled (now (buffer .entry))) (now (sectors .entry)) run) ⌝ }
 {
     let at = run.at;
     let Address::Names(sector) = transfers::located(settled, at) else {
@@ -180,6 +186,7 @@ fn takes_to(transfer: Transfer) -> usize
 // Words up to that place have arrived.
 fn write_to(hot: Hot, place: usize, settled: Settled, buffer: &[u8; 512], sectors: &mut [u8]) -> Hot
     requires { ⌜ Memory (settled .geometry) (settled .translation) (now sectors) ⌝ }
+    ensures { λ r. ⌜ (faceWith r settled (now (buffer .entry)) ≡ writtenUpTo (faceWith hot settled (now (buffer .entry))) place) × (now (sectors .exit) ≡ storedUpTo (faceWith hot settled (now (buffer .entry))) (now (sectors .entry)) place) ⌝ }
 {
     if place < 256 {
         return placed(hot, place as u8);
@@ -204,6 +211,7 @@ pub fn write_words(
     bytes: &[u8],
 ) -> Passed
     requires { ⌜ Memory (settled .geometry) (settled .translation) (now sectors) ⌝ }
+    ensures { λ r. ⌜ Writes hot settled (now (buffer .entry)) (now (sectors .entry)) (now (bytes .entry)) r (now (buffer .exit)) (now (sectors .exit)) ⌝ }
 {
     let mut hot = hot;
     let mut words = 0;
