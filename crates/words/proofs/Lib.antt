@@ -2,3 +2,4 @@ pub mod Moving
 pub mod Bytes
 pub mod BulkReads
 pub mod ReadLoop
+pub mod BulkWrites
