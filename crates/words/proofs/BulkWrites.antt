@@ -202,8 +202,8 @@ words-up-to h s b x m ws l p e i g = either-way (ltb (p + length ws) 256) within
         let j = ltb-true (p + length ws) 256 q in
         words-within h s b x m o ws l p e (omega arith)
         ∙ ap (λ (y : Bool). takenBehind (length ws) (writeWordsOf aloneOf l
-            (deviceOf (pick y (faceAt (faceWith h s (putAll b p ws)) (p + length ws)) (blockTaken (faceWith h s (putAll b p ws)) (h .transfer))) x)
-            (pick y m (blockStored (faceWith h s (putAll b p ws)) m (h .transfer))))) (sym q)
+        (deviceOf (pick y (faceAt (faceWith h s (putAll b p ws)) (p + length ws)) (blockTaken (faceWith h s (putAll b p ws)) (h .transfer))) x)
+        (pick y m (blockStored (faceWith h s (putAll b p ws)) m (h .transfer))))) (sym q)
 
     whole : ltb (p + length ws) 256 ≡ false → writeWordsOf aloneOf (ws ++ l) (deviceWith h s b x) m ≡ taken-to h s b x m ws l p
     whole q =

@@ -3,3 +3,4 @@ pub mod Bytes
 pub mod BulkReads
 pub mod ReadLoop
 pub mod BulkWrites
+pub mod WriteLoop

@@ -1,7 +1,7 @@
 // Data words in bulk: as many words as a transfer passes, a block at a time.
 ghost use mathlib.Core.Path.{_≡_};
 ghost use mathlib.Core.List.{List};
-ghost use Prim.Native.Nat.{ℕ, min};
+ghost use Prim.Native.Nat.{ℕ, _≤_, min};
 ghost use Rattle.transfers.specs.Sectors.{Memory};
 ghost use Rattle.reading.specs.Sectors.{readAt};
 ghost use Rattle.reading.specs.Words.{readNextOf, readWordAs};
@@ -171,7 +171,7 @@ fn write_last(hot: Hot, settled: Settled, run: Run, buffer: &[u8; 512], sectors:
 
 // Where the words end that the block takes in here. A password block's last word is judged, which takes more of the device.
 fn takes_to(transfer: Transfer) -> usize
-    ensures { λ r. ⌜ r ≡ takesTo transfer ⌝ }
+    ensures { λ r. ⌜ (r ≡ takesTo transfer) × (r ≤ 256) ⌝ }
 {
     match transfer {
         Transfer::Idle => 0,
