@@ -60,6 +60,33 @@ taken-behind j k t =
 pub behind-none : (t : Taken) → t ≡ takenBehind 0 t
 behind-none t = ap (λ (n : ℕ). record { count = n; device = t .device; sectors = t .sectors }) (sym (zero-add (t .count)))
 
+-- a word that passes or not, and those behind it
+abbrev taken-next : Bool → Device → List ℕ → Taken → Taken
+taken-next y d m t = pick y (takenBehind 1 t) (record { count = 0; device = d; sectors = m })
+
+append-next : (r : Rules) (ws l : List ℕ) (d : Device) (m : List ℕ) (s : Step) (y : Bool)
+    → (writeWordsOf r ws (s .outcome .device) (s .sectors) .count ≡ length ws
+      → writeWordsOf r (ws ++ l) (s .outcome .device) (s .sectors)
+      ≡ takenBehind (length ws) (writeWordsOf r l (writeWordsOf r ws (s .outcome .device) (s .sectors) .device) (writeWordsOf r ws (s .outcome .device) (s .sectors) .sectors)))
+    → taken-next y d m (writeWordsOf r ws (s .outcome .device) (s .sectors)) .count ≡ suc (length ws)
+    → taken-next y d m (writeWordsOf r (ws ++ l) (s .outcome .device) (s .sectors))
+    ≡ takenBehind (suc (length ws))
+    (writeWordsOf r l (taken-next y d m (writeWordsOf r ws (s .outcome .device) (s .sectors)) .device) (taken-next y d m (writeWordsOf r ws (s .outcome .device) (s .sectors)) .sectors))
+append-next r ws l d m s true rest e =
+    let n : 1 + length ws ≡ suc (length ws) = omega arith in
+    ap (takenBehind 1) (rest (omega arith)) ∙ taken-behind 1 (length ws) _
+    ∙ ap (λ (k : ℕ). takenBehind k (writeWordsOf r l (writeWordsOf r ws (s .outcome .device) (s .sectors) .device) (writeWordsOf r ws (s .outcome .device) (s .sectors) .sectors))) n
+append-next r ws l d m s false rest e = absurd (omega arith)
+
+-- words that pass, and those behind them
+pub writes-append : (r : Rules) (ws l : List ℕ) (d : Device) (m : List ℕ) → writeWordsOf r ws d m .count ≡ length ws
+    → writeWordsOf r (ws ++ l) d m ≡ takenBehind (length ws) (writeWordsOf r l (writeWordsOf r ws d m .device) (writeWordsOf r ws d m .sectors))
+unfolding writeWordsOf
+writes-append r [] l d m e = behind-none (writeWordsOf r l d m)
+writes-append r (w ∷ ws) l d m e =
+    append-next r ws l d m (r d m (WriteWord w)) (eqb (r d m (WriteWord w) .outcome .number) 0)
+    (writes-append r ws l (r d m (WriteWord w) .outcome .device) (r d m (WriteWord w) .sectors)) e
+
 -- a word that is not its block's last
 word-in : (h : Hot) (s : Settled) (b : List ℕ) (x : Secrets) (m : List ℕ) (p : ℕ) (raised : Bool) (w : ℕ) → takesIn (h .transfer) ≡ true → p < 255
     → aloneOf (deviceWith (hotAt h p raised) s b x) m (WriteWord w) ≡ wordDone (deviceWith (hotAt h (p + 1) raised) s (wordPut b p w) x) m 0
