@@ -5,7 +5,7 @@ use Prim.Native.Nat.{ℕ, zero, suc, _+_, _*_, _/_, _%_, _≤_, _<_}
 use native.Mathlib.Numerals.{add-one}
 use native.Mathlib.Omega.{arith}
 use lib.ListN.{length, getD, take, drop, set, length-set}
-use lib.Seq.{drop-cons, take-suc-set, drop-set-lt, paste, paste-zero}
+use lib.Seq.{length-take-le, drop-cons, take-suc-set, drop-set-lt, paste, paste-zero}
 use Rattle.block.specs.Words.{wordAt, wordPut}
 use Rattle.block.proofs.WordLaws.{put-length}
 use Rattle.laws.proofs.ReadBack.{putAll, wordsFrom}
@@ -31,6 +31,13 @@ unfolding wordsIn
 words-length [] = refl
 words-length (x ∷ []) = refl
 words-length (x ∷ y ∷ l) = let e : length (wordsIn l) ≡ length l / 2 = words-length l in omega arith
+
+half : (i : ℕ) → 2 * i / 2 ≡ i
+half i = omega arith
+
+-- so many words at the front of bytes
+pub front-length : (bytes : List ℕ) (words : ℕ) → 2 * words ≤ length bytes → length (wordsIn (take (2 * words) bytes)) ≡ words
+front-length bytes words l = words-length (take (2 * words) bytes) ∙ ap (λ (i : ℕ). i / 2) (length-take-le (2 * words) bytes l) ∙ half words
 
 -- a word put at the front of what a copy brings
 put-front : (b l : List ℕ) (p k x y : ℕ) → 2 * p + 2 ≤ length b → x < 256

@@ -22,7 +22,7 @@ use Rattle.words.specs.Words.{Taken, takenBehind, writeWordsOf, wordsIn}
 use Rattle.words.specs.Blocks.{faceWith, takesTo, takesHere, writtenUpTo, storedUpTo, Moved}
 use Rattle.words.specs.Bulk.{deviceWith, Writes}
 use Rattle.words.specs.declared.Passed.{Passed}
-use Rattle.words.proofs.Bytes.{words-append, words-length, put-pasted}
+use Rattle.words.proofs.Bytes.{words-append, front-length, put-pasted}
 use Rattle.words.proofs.BulkWrites.{writes-append, taken-to, words-up-to}
 
 pub record Taking (h₀ : Hot) (s : Settled) (b₀ m₀ bytes : List ℕ) (h : Hot) (b m : List ℕ) (words : ℕ) : Type 0 where
@@ -34,12 +34,6 @@ pub record Taking (h₀ : Hot) (s : Settled) (b₀ m₀ bytes : List ℕ) (h : H
 pub taking-none : (h : Hot) (s : Settled) (b m bytes : List ℕ) → Taking h s b m bytes h b m 0
 unfolding wordsIn writeWordsOf
 taking-none h s b m bytes = record { passed = λ x. refl; below = omega arith; long = refl }
-
-half : (i : ℕ) → 2 * i / 2 ≡ i
-half i = omega arith
-
-front-length : (bytes : List ℕ) (words : ℕ) → 2 * words ≤ length bytes → length (wordsIn (take (2 * words) bytes)) ≡ words
-front-length bytes words l = words-length (take (2 * words) bytes) ∙ ap (λ (i : ℕ). i / 2) (length-take-le (2 * words) bytes l) ∙ half words
 
 -- single writes of more words: of those behind the words so far, from where it stands
 passed-then : {h₀ : Hot} {s : Settled} {b₀ m₀ bytes : List ℕ} {h : Hot} {b m : List ℕ} {words : ℕ} → Taking h₀ s b₀ m₀ bytes h b m words → (l : List ℕ) (x : Secrets)
