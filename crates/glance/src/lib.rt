@@ -73,7 +73,7 @@ pub fn hot_at(hot: Hot, word: u8, raised: bool) -> Hot
 }
 
 // Its words are for the guest to read.
-fn hands_out(transfer: Transfer) -> bool
+pub fn hands_out(transfer: Transfer) -> bool
     ensures { λ r. ⌜ r ≡ handsOut transfer ⌝ }
 {
     match transfer {

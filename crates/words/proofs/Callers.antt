@@ -1,0 +1,102 @@
+-- For who calls write_words: what is still to come where it stopped, and that a device in shape over its memory does the same by the host's rules.
+use mathlib.Core.Path.{_≡_, refl, sym, ap, _∙_}
+use mathlib.Core.Bool.{Bool, true, false}
+use mathlib.Core.Logic.{_⊎_, ⊎-elim}
+use mathlib.Core.List.{List, [], _∷_}
+use Prim.Native.Nat.{ℕ, zero, suc, _+_, _*_, _≤_, _<_}
+use native.Mathlib.Omega.{arith}
+use lib.Dec.{eqb, ltb}
+use lib.ListN.{length, getD, drop}
+use borrow.Author.Tests.{eqb-true}
+use Rattle.base.specs.Choice.{pick}
+use Rattle.base.proofs.Tests.{false≢true}
+use Rattle.judging.specs.declared.Verdict.{Verdict}
+use Rattle.judging.specs.declared.Verdict.the-variants.{EndsWell, Aborts, Erases}
+use Rattle.lock.specs.declared.Secrets.{Secrets}
+use Rattle.settled.specs.declared.Settled.{Settled}
+use Rattle.face.specs.declared.Hot.{Hot}
+use Rattle.face.specs.declared.Face.{Face}
+use Rattle.face.specs.declared.PasswordBlock.{PasswordBlock}
+use Rattle.face.specs.declared.Transfer.{Transfer}
+use Rattle.face.specs.declared.Transfer.the-variants.{Idle, Reading, Writing, ReadingBuffer, WritingBuffer, TakingPassword}
+use Rattle.face.specs.declared.Action.the-variants.{ReadWord, WriteWord}
+use Rattle.fastpath.specs.Dev.{ignoredOf}
+use Rattle.transfers.specs.Words.{wordIn}
+use Rattle.effects.specs.declared.Acted.{Acted}
+use Rattle.password.specs.Passwords.{endedAs, judgementOf, passwordEnded, passwordLast, passwordWord}
+use Rattle.disk.specs.Actions.{writeWordAs, writeWordOf, actOf}
+use Rattle.device.specs.Alone.{Step, stepAs, aloneOf}
+use Rattle.device.specs.declared.Device.{Device}
+use Rattle.glance.specs.Glances.{takesIn}
+use Rattle.words.specs.Words.{Taken, takenBehind, writeWordsOf, wordsIn}
+use Rattle.words.specs.Blocks.{takesHere}
+use Rattle.words.specs.Bulk.{deviceWith, Writes}
+use Rattle.words.specs.declared.Passed.{Passed}
+
+-- no word
+abbrev pub takesNone : Device → List ℕ → Taken
+takesNone d m = record { count = 0; device = d; sectors = m }
+
+-- one word, or none where it is turned away
+abbrev pub takesOne : Device → List ℕ → Step → Taken
+takesOne d m s = pick (eqb (s .outcome .number) 0) (record { count = 1; device = s .outcome .device; sectors = s .sectors }) (takesNone d m)
+
+-- ---- where no word is taken in here
+
+-- a word where no transfer takes it
+word-refused : (f : Face) (x : Secrets) (m : List ℕ) (w : ℕ) (t : Transfer) → takesIn t ≡ false → eqb (stepAs (writeWordAs f x m w t) .outcome .number) 0 ≡ false
+word-refused f x m w Idle e = refl
+word-refused f x m w (Reading r) e = refl
+word-refused f x m w (Writing r) e = absurd (false≢true (sym e))
+word-refused f x m w (ReadingBuffer n) e = refl
+word-refused f x m w (WritingBuffer n) e = absurd (false≢true (sym e))
+word-refused f x m w (TakingPassword b) e = absurd (false≢true (sym e))
+
+pub writes-none : (l : List ℕ) (d : Device) (m : List ℕ) → takesIn (d .face .hot .transfer) ≡ false → writeWordsOf aloneOf l d m ≡ takesNone d m
+unfolding writeWordsOf aloneOf ignoredOf actOf writeWordOf
+writes-none [] d m e = refl
+writes-none (w ∷ l) d m e = rw (word-refused (d .face) (d .secrets) m w (d .face .hot .transfer) e)
+
+-- ---- a password block's last word
+
+-- a judged block leaves no transfer that takes words
+judged-takes : (f : Face) (v : Verdict) → takesIn (endedAs f v .hot .transfer) ≡ false
+judged-takes f EndsWell = refl
+judged-takes f Aborts = refl
+judged-takes f Erases = refl
+
+-- it is done, and no further word is taken
+last-judged : (f : Face) (x : Secrets) (m : List ℕ) (w : ℕ) (b : PasswordBlock) → ltb (b .word) 255 ≡ false
+    → (stepAs (writeWordAs f x m w (TakingPassword b)) .outcome .number ≡ 0) × (takesIn (stepAs (writeWordAs f x m w (TakingPassword b)) .outcome .device .face .hot .transfer) ≡ false)
+unfolding passwordWord passwordLast
+last-judged f x m w b e = rw e (refl, judged-takes (passwordEnded (wordIn f (b .word) w) (judgementOf (wordIn f (b .word) w) x (b .purpose) .security)) (judgementOf (wordIn f (b .word) w) x (b .purpose) .verdict))
+
+-- ---- the word at which write_words stops
+
+-- a step that is not done, or behind which no word is taken, is all that single writes come to
+only-one : (w : ℕ) (l : List ℕ) (d : Device) (m : List ℕ)
+    → (aloneOf d m (WriteWord w) .outcome .number ≡ 0 → takesIn (aloneOf d m (WriteWord w) .outcome .device .face .hot .transfer) ≡ false)
+    → writeWordsOf aloneOf (w ∷ l) d m ≡ takesOne d m (aloneOf d m (WriteWord w))
+unfolding writeWordsOf
+only-one w l d m h = go (eqb (aloneOf d m (WriteWord w) .outcome .number) 0) refl
+  where
+    go : (y : Bool) → eqb (aloneOf d m (WriteWord w) .outcome .number) 0 ≡ y
+        → pick y (takenBehind 1 (writeWordsOf aloneOf l (aloneOf d m (WriteWord w) .outcome .device) (aloneOf d m (WriteWord w) .sectors))) (takesNone d m)
+        ≡ pick y (record { count = 1; device = aloneOf d m (WriteWord w) .outcome .device; sectors = aloneOf d m (WriteWord w) .sectors }) (takesNone d m)
+    go true e = ap (takenBehind 1) (writes-none l (aloneOf d m (WriteWord w) .outcome .device) (aloneOf d m (WriteWord w) .sectors) (h (eqb-true _ _ e)))
+    go false e = refl
+
+behind-stop : (f : Face) (x : Secrets) (m : List ℕ) (w : ℕ) (t : Transfer) → takesHere t ≡ false
+    → stepAs (writeWordAs f x m w t) .outcome .number ≡ 0 → takesIn (stepAs (writeWordAs f x m w t) .outcome .device .face .hot .transfer) ≡ false
+behind-stop f x m w Idle e n = absurd (omega arith)
+behind-stop f x m w (Reading r) e n = absurd (omega arith)
+behind-stop f x m w (Writing r) e n = absurd (false≢true (sym e))
+behind-stop f x m w (ReadingBuffer i) e n = absurd (omega arith)
+behind-stop f x m w (WritingBuffer i) e n = absurd (false≢true (sym e))
+behind-stop f x m w (TakingPassword b) e n = last-judged f x m w b e .1
+
+-- the one word alone: it is turned away, or it is a password block's last, behind which the next is turned away
+pub one-word : (w : ℕ) (l : List ℕ) (d : Device) (m : List ℕ) → takesHere (d .face .hot .transfer) ≡ false
+    → writeWordsOf aloneOf (w ∷ l) d m ≡ takesOne d m (aloneOf d m (WriteWord w))
+unfolding aloneOf ignoredOf actOf writeWordOf
+one-word w l d m e = only-one w l d m (behind-stop (d .face) (d .secrets) m w (d .face .hot .transfer) e)

@@ -1,0 +1,41 @@
+-- The address decides, whatever is in the buffer.
+use Rattle.transfers.specs.Sectors.{notFoundOf}
+use Rattle.writing.specs.Words.{wantAt}
+use borrow.Author.Needs.{needs}
+use Rattle.words.proofs.want_at.Statement.{statement}
+use Rattle.words.proofs.want_at.Tie as tie
+
+located-requires : tie.Need-located-requires
+located-requires c κs = search needs
+
+enum-known-sector : tie.Need-enum-known-sector
+enum-known-sector c = search needs
+
+enum-told : tie.Need-enum-told
+enum-told c = search needs
+
+missed-requires : tie.Need-missed-requires
+missed-requires c κs = search needs
+
+returns : tie.Need-returns
+unfolding wantAt notFoundOf
+returns c = λ b. simp (c .missed .ensures, c .before .enum-told .given .1, ← c .before .before .before .located .ensures)
+
+raised-requires : tie.Need-raised-requires
+raised-requires c κs = search needs
+
+returns-2 : tie.Need-returns-2
+unfolding wantAt notFoundOf
+returns-2 c = λ b. simp (c .raised .ensures, c .before .before .sector .given .1, ← c .before .before .before .before .located .ensures)
+
+pub want-at-spec : {M : Type 1} → statement M
+want-at-spec =
+    tie.close
+    (tie.spec
+    located-requires
+    enum-known-sector
+    enum-told
+    missed-requires
+    returns
+    raised-requires
+    returns-2)

@@ -1,0 +1,38 @@
+-- What the loops over blocks come to, in terms of single words.
+use Prim.Native.Nat.{ℕ, _+_, _*_, _/_, _≤_, _<_}
+use mathlib.Core.Path.{_≡_}
+use mathlib.Core.Bool.{false}
+use mathlib.Core.Logic.{_⊎_}
+use mathlib.Core.List.{List}
+use lib.ListN.{length, take, drop}
+use Rattle.lock.specs.declared.Secrets.{Secrets}
+use Rattle.settled.specs.declared.Settled.{Settled}
+use Rattle.face.specs.declared.Hot.{Hot}
+use Rattle.device.specs.Alone.{aloneOf, deviceOf}
+use Rattle.device.specs.declared.Device.{Device}
+use Rattle.words.specs.Blocks.{faceWith, takesHere}
+use Rattle.words.specs.Words.{Handed, readWordsOf, Taken, takenBehind, writeWordsOf, wordsIn}
+use Rattle.words.specs.declared.Passed.{Passed}
+
+-- a device of these parts
+abbrev pub deviceWith : Hot → Settled → List ℕ → Secrets → Device
+deviceWith h s b x = deviceOf (faceWith h s b) x
+
+-- the words that single reads give, whatever the passwords are: r is where they lead, `after` the buffer, `out` the bytes lent for them
+pub record Reads (h : Hot) (s : Settled) (b m out : List ℕ) (r : Passed) (after written : List ℕ) : Type 0 where
+  pub handed : (x : Secrets) → readWordsOf aloneOf (length out / 2) (deviceWith h s b x) m
+      ≡ record { words = wordsIn (take (2 * r .words) written); device = deviceWith (r .hot) s after x; sectors = m }
+  pub below : 2 * r .words ≤ length out
+  pub long : length written ≡ length out
+  pub behind : drop (2 * r .words) written ≡ drop (2 * r .words) out
+
+-- the words that single writes take, whatever the passwords are, but for a password block's last: where those that passed lead, and
+-- that single writes of the rest from there on come to the same
+pub record Writes (h : Hot) (s : Settled) (b m bytes : List ℕ) (r : Passed) (after m' : List ℕ) : Type 0 where
+  pub passed : (x : Secrets) → writeWordsOf aloneOf (wordsIn (take (2 * r .words) bytes)) (deviceWith h s b x) m
+      ≡ record { count = r .words; device = deviceWith (r .hot) s after x; sectors = m' }
+  pub taken : (x : Secrets) → writeWordsOf aloneOf (wordsIn bytes) (deviceWith h s b x) m
+      ≡ takenBehind (r .words) (writeWordsOf aloneOf (wordsIn (drop (2 * r .words) bytes)) (deviceWith (r .hot) s after x) m')
+  pub below : 2 * r .words ≤ length bytes
+  pub long : length m' ≡ length m
+  pub stopped : (length bytes < 2 * r .words + 2) ⊎ (takesHere (r .hot .transfer) ≡ false)
