@@ -58,9 +58,9 @@ most-words (WritingBuffer n) p = omega arith
 most-words (TakingPassword b) p = omega arith
 
 -- fewer words are left than before
-record Fewer (n : ℕ) (f : Face) : Type 0 where
-  less : wordsLeft (f .hot .transfer) < n
-  bytes : Bytes (f .hot .transfer)
+pub record Fewer (n : ℕ) (f : Face) : Type 0 where
+  pub less : wordsLeft (f .hot .transfer) < n
+  pub bytes : Bytes (f .hot .transfer)
 
 read-fewer : (n : ℕ) (f : Face) (m : List ℕ) (r : Run) (a : Address) → r .word ≡ 0 → r .after < 256 → 256 * r .after + 256 < n → Fewer n (readAs f m r a)
 unfolding notFoundOf
@@ -176,7 +176,7 @@ abbrev pub actionOf : Word → Action
 actionOf Read = ReadWord
 actionOf (Written w) = WriteWord w
 
-act-fewer : (f : Face) (x : Secrets) (m : List ℕ) (w : Word) → Bytes (f .hot .transfer) → actOf f x m (actionOf w) .acted .answer ≡ Done
+pub act-fewer : (f : Face) (x : Secrets) (m : List ℕ) (w : Word) → Bytes (f .hot .transfer) → actOf f x m (actionOf w) .acted .answer ≡ Done
     → Fewer (wordsLeft (f .hot .transfer)) (actOf f x m (actionOf w) .acted .face)
 unfolding actOf readWordOf writeWordOf
 act-fewer f x m Read b e = read-word-fewer f m (f .hot .transfer) b e

@@ -126,7 +126,7 @@ away-gives b x m a w r k e f g =
 -- ---- what the two ways leave
 
 -- the hot part's bytes put over a state that is formed
-hot-put : (b : List ℕ) (h : Hot) → formedOf b ≡ true → LowBytes b → sets b 0 (hotBytes h) ≡ hotBytes h ++ restBytes (settledStored b) (secretsStored b)
+pub hot-put : (b : List ℕ) (h : Hot) → formedOf b ≡ true → LowBytes b → sets b 0 (hotBytes h) ≡ hotBytes h ++ restBytes (settledStored b) (secretsStored b)
 hot-put b h f k =
     let l : length (hotBytes h) ≡ 18 = hot-bytes-long h in
     let w : 0 + length (hotBytes h) ≤ length b = omega (arith, l, formed-long b f) in

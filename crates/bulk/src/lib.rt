@@ -1,0 +1,150 @@
+// Data words in bulk over a device as lent bytes.
+ghost use mathlib.Core.Path.{_≡_};
+ghost use Prim.Native.Nat.{_+_, _*_, _/_, _≤_};
+ghost use lib.ListN.{length};
+ghost use Rattle.transfers.specs.Sectors.{Memory};
+ghost use Rattle.lent.specs.Lent.{Admitted, Gives};
+ghost use Rattle.words.specs.Words.{wordsIn};
+ghost use Rattle.bulk.specs.Bulk.{countedReply, LastWord, readsAdmitted, wordsAdmitted, readLent, wordsLent, ReadsLent, writesAdmitted, writeLent};
+use device::Device;
+use face::Action;
+use face::Answer;
+use face::Face;
+use face::Hot;
+use lent::Reply;
+use lock::Secrets;
+use settled::Settled;
+
+// How many words passed; where none did of those that were wanted, the call is turned away.
+fn counted(passed: usize, wanted: usize) -> Reply
+    requires { ⌜ passed ≤ 65536 ⌝ }
+    ensures { λ r. ⌜ r ≡ countedReply passed wanted ⌝ }
+{
+    if passed == 0 {
+        if wanted == 0 {
+            return lent::answered(0, 0);
+        }
+        return lent::refused(Answer::NoTransfer);
+    }
+    lent::answered(0, passed as u32)
+}
+
+// Words are read from a device in shape over its memory.
+fn read_admitted(
+    state: &mut [u8],
+    buffer: &mut [u8; 512],
+    sectors: &[u8],
+    out: &mut [u8],
+) -> Reply
+    requires { ⌜ Admitted (now state) (now buffer) (now sectors) ⌝ }
+    ensures { λ r. ⌜ ReadsLent (readsAdmitted (now (state .entry)) (now (buffer .entry)) (now (sectors .entry)) (length (now (out .entry)) / 2)) (wordsAdmitted (now (state .entry)) (now (buffer .entry)) (now (sectors .entry)) (length (now (out .entry)) / 2)) (now (out .entry)) r (now (state .exit)) (now (buffer .exit)) (now (sectors .entry)) (now (out .exit)) ⌝ }
+{
+    let hot = layout::hot_at(state);
+    let settled = layout::settled_at(state);
+    let wanted = out.len() / 2;
+    let passed = words::read_words(hot, settled, buffer, sectors, out);
+    layout::put_hot(state, passed.hot);
+    counted(passed.words, wanted)
+}
+
+// Data words are read into `out`, as many as it has room for, up to the first that is turned away.
+pub fn read_words(
+    state: &mut [u8],
+    buffer: &mut [u8; 512],
+    sectors: &[u8],
+    out: &mut [u8],
+) -> Reply
+    ensures { λ r. ⌜ ReadsLent (readLent (now (state .entry)) (now (buffer .entry)) (now (sectors .entry)) (length (now (out .entry)) / 2)) (wordsLent (now (state .entry)) (now (buffer .entry)) (now (sectors .entry)) (length (now (out .entry)) / 2)) (now (out .entry)) r (now (state .exit)) (now (buffer .exit)) (now (sectors .entry)) (now (out .exit)) ⌝ }
+{
+    let answer = lent::admission(state, sectors);
+    match answer {
+        Answer::Done => read_admitted(state, buffer, sectors, out),
+        Answer::NoRegister => lent::refused(answer),
+        Answer::OutOfShape => lent::refused(answer),
+        Answer::WrongLength => lent::refused(answer),
+        Answer::NoTransfer => lent::refused(answer),
+        Answer::SetupRefused => lent::refused(answer),
+    }
+}
+
+// A word that takes the whole device, whose hot part is held apart: the answer's number.
+fn last_word(
+    state: &mut [u8],
+    buffer: &mut [u8; 512],
+    hot: Hot,
+    settled: Settled,
+    w: u16,
+    sectors: &mut [u8],
+) -> u8
+    requires { ⌜ (length (now state) ≡ 163) × Memory (settled .geometry) (settled .translation) (now sectors) ⌝ }
+    ensures { λ r. ⌜ LastWord (now (state .entry)) (now (buffer .entry)) hot settled w (now (sectors .entry)) r (now (state .exit)) (now (buffer .exit)) (now (sectors .exit)) ⌝ }
+{
+    let user = layout::password_at(state, 99);
+    let master = layout::password_at(state, 131);
+    let secrets = Secrets { user, master };
+    let block = *buffer;
+    let face = Face {
+        hot,
+        settled,
+        buffer: block,
+    };
+    let device = Device { face, secrets };
+    let outcome = device.act(Action::WriteWord(w), sectors);
+    let number = outcome.number;
+    layout::put_device(state, buffer, outcome.device);
+    number
+}
+
+fn word_of(low: u8, high: u8) -> u16
+    ensures { λ r. ⌜ r ≡ low + 256 * high ⌝ }
+{
+    (low as u16) + 256 * (high as u16)
+}
+
+// Words are written to a device in shape over its memory.
+fn write_admitted(
+    state: &mut [u8],
+    buffer: &mut [u8; 512],
+    sectors: &mut [u8],
+    bytes: &[u8],
+) -> Reply
+    requires { ⌜ Admitted (now state) (now buffer) (now sectors) ⌝ }
+    ensures { λ r. ⌜ Gives (writesAdmitted (now (state .entry)) (now (buffer .entry)) (now (sectors .entry)) (wordsIn (now (bytes .entry)))) r (now (state .exit)) (now (buffer .exit)) (now (sectors .exit)) ⌝ }
+{
+    let hot = layout::hot_at(state);
+    let settled = layout::settled_at(state);
+    let wanted = bytes.len() / 2;
+    let passed = words::write_words(hot, settled, buffer, sectors, bytes);
+    let count = passed.words;
+    let far = passed.hot;
+    if count < wanted {
+        let w = word_of(bytes[2 * count], bytes[2 * count + 1]);
+        let number = last_word(state, buffer, far, settled, w, sectors);
+        if number == 0 {
+            return counted(count + 1, wanted);
+        }
+        return counted(count, wanted);
+    }
+    layout::put_hot(state, far);
+    counted(count, wanted)
+}
+
+// Data words are written, up to the first that is turned away.
+pub fn write_words(
+    state: &mut [u8],
+    buffer: &mut [u8; 512],
+    sectors: &mut [u8],
+    bytes: &[u8],
+) -> Reply
+    ensures { λ r. ⌜ Gives (writeLent (now (state .entry)) (now (buffer .entry)) (now (sectors .entry)) (wordsIn (now (bytes .entry)))) r (now (state .exit)) (now (buffer .exit)) (now (sectors .exit)) ⌝ }
+{
+    let answer = lent::admission(state, sectors);
+    match answer {
+        Answer::Done => write_admitted(state, buffer, sectors, bytes),
+        Answer::NoRegister => lent::refused(answer),
+        Answer::OutOfShape => lent::refused(answer),
+        Answer::WrongLength => lent::refused(answer),
+        Answer::NoTransfer => lent::refused(answer),
+        Answer::SetupRefused => lent::refused(answer),
+    }
+}
