@@ -1,7 +1,7 @@
 -- For who calls write_words: what is still to come where it stopped, and that a device in shape over its memory does the same by the host's rules.
 use mathlib.Core.Path.{_≡_, refl, sym, ap, _∙_}
 use mathlib.Core.Bool.{Bool, true, false}
-use mathlib.Core.Logic.{_⊎_, ⊎-elim}
+use mathlib.Core.Logic.{⊎-elim}
 use mathlib.Core.List.{List, [], _∷_}
 use Prim.Native.Nat.{ℕ, zero, suc, _+_, _*_, _≤_, _<_}
 use native.Mathlib.Omega.{arith}
@@ -24,7 +24,6 @@ use Rattle.face.specs.declared.Transfer.the-variants.{Idle, Reading, Writing, R
 use Rattle.face.specs.declared.Action.the-variants.{ReadWord, WriteWord}
 use Rattle.fastpath.specs.Dev.{ignoredOf}
 use Rattle.transfers.specs.Words.{wordIn}
-use Rattle.effects.specs.declared.Acted.{Acted}
 use Rattle.password.specs.Passwords.{endedAs, judgementOf, passwordEnded, passwordLast, passwordWord}
 use Rattle.disk.specs.Actions.{writeWordAs, writeWordOf, actOf}
 use Rattle.device.specs.Alone.{Step, stepAs, aloneOf}
