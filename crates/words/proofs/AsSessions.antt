@@ -1,6 +1,5 @@
 -- What the bulk definitions mean for a host: a session of single words, all of them done; and the next one would not be.
-use mathlib.Core.Path.{_≡_, refl, sym, ap, subst, _∙_}
-use mathlib.Core.Bool.{true, false}
+use mathlib.Core.Path.{_≡_, refl, ap, subst}
 use mathlib.Core.List.{List, [], _∷_, map}
 use Prim.Native.Nat.{ℕ, zero, suc, _+_, _≤_, _<_}
 use native.Mathlib.Omega.{arith}
@@ -11,7 +10,7 @@ use Rattle.base.proofs.Tests.{pick-each}
 use Rattle.face.specs.declared.Answer.the-variants.{Done}
 use Rattle.face.specs.declared.Action.the-variants.{ReadWord, WriteWord}
 use Rattle.device.specs.declared.Device.{Device}
-use Rattle.laws.specs.Sessions.{Rules, Given, given, Session, sessionOf, valuesOf}
+use Rattle.laws.specs.Sessions.{Rules, Given, given, sessionOf, valuesOf}
 use Rattle.words.specs.Words.{Handed, readWordsOf, Taken, takenBehind, writeWordsOf}
 
 -- ---- reads
@@ -32,17 +31,17 @@ reads-session r (suc n) d m = go (reads-session r n (r d m ReadWord .outcome .de
     go rest =
         pick-each (ReadsAs r (suc n) d m) (eqb (r d m ReadWord .outcome .number) 0) _ _
         (λ e.
-          let number : r d m ReadWord .outcome .number ≡ 0 = eqb-true _ _ e in
-          record {
-            session = λ i.
-                record {
-                  answers = record { number = number i; value = r d m ReadWord .outcome .value } ∷ rest .session i .answers;
-                  device = rest .session i .device;
-                  sectors = rest .session i .sectors;
-                };
-            fewer = let l = rest .fewer in omega arith;
-            next = λ l f. rest .next (omega arith) f;
-          })
+        let number : r d m ReadWord .outcome .number ≡ 0 = eqb-true _ _ e in
+        record {
+          session = λ i.
+              record {
+                answers = record { number = number i; value = r d m ReadWord .outcome .value } ∷ rest .session i .answers;
+                device = rest .session i .device;
+                sectors = rest .session i .sectors;
+              };
+          fewer = let l = rest .fewer in omega arith;
+          next = λ l f. rest .next (omega arith) f;
+        })
         (λ e. record { session = refl; fewer = omega arith; next = λ l f. eqb-false _ _ e f })
 
 -- the values of those answers are the words

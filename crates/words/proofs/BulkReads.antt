@@ -1,12 +1,11 @@
 -- Words read a block at a time are single reads: word by word up to the block's last, then what that one leaves.
 use mathlib.Core.Path.{_≡_, refl, sym, ap, _∙_}
 use mathlib.Core.Bool.{Bool, true, false}
-use mathlib.Core.List.{List, [], _∷_, _++_, append-assoc, append-nil}
-use Prim.Native.Nat.{ℕ, zero, suc, _+_, _-_, _*_, _/_, _≤_, _<_}
+use mathlib.Core.List.{List, [], _∷_, _++_, append-assoc}
+use Prim.Native.Nat.{ℕ, zero, suc, _+_, _-_, _≤_, _<_}
 use native.Mathlib.Nat.{zero-add, suc-add}
 use native.Mathlib.Omega.{arith}
 use lib.Dec.{eqb, ltb}
-use lib.ListN.{length, take, drop}
 use borrow.Author.Tests.{lt-ltb, ltb-true, ltb-false}
 use Rattle.base.specs.Choice.{pick}
 use Rattle.base.proofs.Tests.{either-way, false≢true}
@@ -38,7 +37,7 @@ use Rattle.laws.proofs.ReadBack.{wordsFrom}
 use Rattle.glance.specs.Places.{placeOf, runPlacedAt, placedAt, hotAt}
 use Rattle.glance.specs.Glances.{handsOut, readGlance, glanceOf, glanceBuffer}
 use Rattle.glance.proofs.Glancing.{hot-same, glance-settles, glance-buffer}
-use Rattle.words.specs.Words.{Handed, handsNone, handsFirst, readWordsOf, wordsIn}
+use Rattle.words.specs.Words.{Handed, handsNone, handsFirst, readWordsOf}
 use Rattle.words.specs.Blocks.{faceWith, faceAt, readUpTo}
 use Rattle.words.specs.Bulk.{deviceWith}
 

@@ -66,8 +66,8 @@ taken-next y d m t = pick y (takenBehind 1 t) (record { count = 0; device = d; s
 
 append-next : (r : Rules) (ws l : List ℕ) (d : Device) (m : List ℕ) (s : Step) (y : Bool)
     → (writeWordsOf r ws (s .outcome .device) (s .sectors) .count ≡ length ws
-      → writeWordsOf r (ws ++ l) (s .outcome .device) (s .sectors)
-      ≡ takenBehind (length ws) (writeWordsOf r l (writeWordsOf r ws (s .outcome .device) (s .sectors) .device) (writeWordsOf r ws (s .outcome .device) (s .sectors) .sectors)))
+    → writeWordsOf r (ws ++ l) (s .outcome .device) (s .sectors)
+    ≡ takenBehind (length ws) (writeWordsOf r l (writeWordsOf r ws (s .outcome .device) (s .sectors) .device) (writeWordsOf r ws (s .outcome .device) (s .sectors) .sectors)))
     → taken-next y d m (writeWordsOf r ws (s .outcome .device) (s .sectors)) .count ≡ suc (length ws)
     → taken-next y d m (writeWordsOf r (ws ++ l) (s .outcome .device) (s .sectors))
     ≡ takenBehind (suc (length ws))

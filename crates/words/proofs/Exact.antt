@@ -1,7 +1,7 @@
 -- The contract of read_words leaves no choice: words settle their bytes, so whatever meets it is one result, one buffer and the same bytes lent for the words.
 use mathlib.Core.Path.{_≡_, refl, sym, ap, _∙_}
 use mathlib.Core.List.{List, [], _∷_, _++_}
-use Prim.Native.Nat.{ℕ, suc, _+_, _*_, _/_, _%_, _≤_, _<_}
+use Prim.Native.Nat.{ℕ, suc, _+_, _*_, _%_, _≤_, _<_}
 use native.Mathlib.Omega.{arith}
 use lib.Dec.{ltb}
 use lib.ListN.{length, getD, take, drop, take-append-drop, length-take, List·getD-eq-default}
@@ -12,7 +12,6 @@ use Rattle.lock.specs.declared.Secrets.{Secrets}
 use Rattle.settled.specs.declared.Settled.{Settled}
 use Rattle.face.specs.declared.Hot.{Hot}
 use Rattle.device.specs.Alone.{aloneOf}
-use Rattle.device.specs.declared.Device.{Device}
 use Rattle.words.specs.Words.{Handed, Taken, writeWordsOf, wordsIn}
 use Rattle.words.specs.Bulk.{deviceWith, Reads, Writes}
 use Rattle.words.specs.declared.Passed.{Passed}

@@ -1,9 +1,8 @@
 -- The loop that copies bytes from one slice into another, and that what it copied are bytes.
-use mathlib.Core.Path.{_≡_, ap}
 use mathlib.Core.List.{List}
 use Prim.Native.Nat.{ℕ, _+_, _≤_, _<_}
 use native.Mathlib.Omega.{arith}
-use lib.ListN.{length, getD, set}
+use lib.ListN.{getD, set}
 use borrow.Author.Count.{below-more}
 use mir.Syntax.{w8}
 use mir.Val.{Fits}

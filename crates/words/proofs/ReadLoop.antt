@@ -1,8 +1,8 @@
 -- What the loop of read_words keeps: the words so far, and behind them what single reads still give, are what single reads give of all.
 use mathlib.Core.Path.{_≡_, refl, sym, ap, _∙_}
 use mathlib.Core.Bool.{true, false}
-use mathlib.Core.List.{List, [], _++_, append-nil}
-use Prim.Native.Nat.{ℕ, _+_, _-_, _*_, _/_, _%_, _≤_, _<_}
+use mathlib.Core.List.{List, _++_, append-nil}
+use Prim.Native.Nat.{ℕ, _+_, _-_, _*_, _/_, _≤_, _<_}
 use native.Mathlib.Omega.{arith}
 use lib.ListN.{length, take, drop, length-drop}
 use lib.Seq.{length-take-le, length-paste, take-paste, drop-paste, drop-drop}
@@ -14,10 +14,9 @@ use Rattle.device.specs.Alone.{deviceOf, aloneOf}
 use Rattle.laws.proofs.ReadBack.{wordsFrom}
 use Rattle.glance.specs.Places.{placeOf}
 use Rattle.glance.specs.Glances.{handsOut}
-use Rattle.words.specs.Words.{Handed, handsNone, readWordsOf, wordsIn}
+use Rattle.words.specs.Words.{handsNone, readWordsOf, wordsIn}
 use Rattle.words.specs.Blocks.{faceWith, readUpTo, Moved}
 use Rattle.words.specs.Bulk.{deviceWith, Reads}
-use Rattle.words.specs.declared.Passed.{Passed}
 use Rattle.words.proofs.Bytes.{words-append, words-from}
 use Rattle.words.proofs.BulkReads.{handsBehind, behind-behind, words-up-to, reads-none}
 

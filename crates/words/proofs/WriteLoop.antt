@@ -1,18 +1,16 @@
 -- What the loop of write_words keeps: single writes of the words so far lead to where it stands.
 use mathlib.Core.Path.{_≡_, refl, sym, ap, _∙_}
-use mathlib.Core.Bool.{Bool, false}
+use mathlib.Core.Bool.{false}
 use mathlib.Core.Logic.{_⊎_, inl, inr}
 use mathlib.Core.List.{List, [], _++_, append-nil}
-use Prim.Native.Nat.{ℕ, _+_, _*_, _/_, _%_, _≤_, _<_}
+use Prim.Native.Nat.{ℕ, _+_, _*_, _/_, _≤_, _<_}
 use native.Mathlib.Omega.{arith}
-use lib.Dec.{ltb}
-use lib.ListN.{length, getD, take, drop, length-drop, take-append-drop}
+use lib.ListN.{length, take, drop, length-drop, take-append-drop}
 use lib.Seq.{length-take-le, getD-drop, take-add}
 use borrow.Author.Tests.{le-ltb}
 use Rattle.lock.specs.declared.Secrets.{Secrets}
 use Rattle.settled.specs.declared.Settled.{Settled}
 use Rattle.face.specs.declared.Hot.{Hot}
-use Rattle.face.specs.declared.Face.{Face}
 use Rattle.face.specs.declared.Transfer.{Transfer}
 use Rattle.face.specs.declared.Transfer.the-variants.{Idle, Reading, Writing, ReadingBuffer, WritingBuffer, TakingPassword}
 use Rattle.device.specs.Alone.{deviceOf, aloneOf}
@@ -21,9 +19,8 @@ use Rattle.glance.specs.Places.{placeOf}
 use Rattle.words.specs.Words.{Taken, takenBehind, writeWordsOf, wordsIn}
 use Rattle.words.specs.Blocks.{faceWith, takesTo, takesHere, writtenUpTo, storedUpTo, Moved}
 use Rattle.words.specs.Bulk.{deviceWith, Writes}
-use Rattle.words.specs.declared.Passed.{Passed}
 use Rattle.words.proofs.Bytes.{words-append, front-length, put-pasted}
-use Rattle.words.proofs.BulkWrites.{writes-append, taken-to, words-up-to}
+use Rattle.words.proofs.BulkWrites.{writes-append, words-up-to}
 
 pub record Taking (h₀ : Hot) (s : Settled) (b₀ m₀ bytes : List ℕ) (h : Hot) (b m : List ℕ) (words : ℕ) : Type 0 where
   pub passed : (x : Secrets) → writeWordsOf aloneOf (wordsIn (take (2 * words) bytes)) (deviceWith h₀ s b₀ x) m₀
@@ -95,7 +92,7 @@ taking-more {h₀} {s} {b₀} {m₀} {bytes} {h} {b} {m} {words} k whole p e l c
           ap (λ (ws : List ℕ). writeWordsOf aloneOf ws (deviceWith h₀ s b₀ x) m₀) (words-more bytes words c (k .below))
           ∙ passed-then k (wordsIn (take (2 * c) (drop (2 * words) bytes))) x
           ∙ ap (takenBehind words) (turn-taken h s b x m (wordsIn (take (2 * c) (drop (2 * words) bytes))) p e l c
-            (front-length (drop (2 * words) bytes) c left) u b′ (put-moved bytes b b′ p words c source (omega arith) v) h′ f m′ g);
+          (front-length (drop (2 * words) bytes) c left) u b′ (put-moved bytes b b′ p words c source (omega arith) v) h′ f m′ g);
       below = omega arith;
       long = n ∙ k .long;
     }

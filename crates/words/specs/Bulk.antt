@@ -11,7 +11,7 @@ use Rattle.face.specs.declared.Hot.{Hot}
 use Rattle.device.specs.Alone.{aloneOf, deviceOf}
 use Rattle.device.specs.declared.Device.{Device}
 use Rattle.words.specs.Blocks.{faceWith, takesHere}
-use Rattle.words.specs.Words.{Handed, readWordsOf, Taken, takenBehind, writeWordsOf, wordsIn}
+use Rattle.words.specs.Words.{readWordsOf, takenBehind, writeWordsOf, wordsIn}
 use Rattle.words.specs.declared.Passed.{Passed}
 
 -- a device of these parts
