@@ -76,6 +76,7 @@ part 'recordings' recordings
 part 'program' python3 tests/program.py "$replay" "$second" "$differential"
 part 'differential' compare
 part 'embedding in C' tests/embedding.sh
+part 'embedding in Rust' tests/embedding_rust.sh
 part 'repository' python3 tests/repository.py "$log"
 
 verdict=$(tail -n 1 "$log")

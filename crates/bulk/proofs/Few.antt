@@ -1,5 +1,5 @@
 -- No more words pass in a call than a transfer has, which are at most 65,536: their number fits the reply.
-use Prim.Native.Nat.{ℕ, zero, suc, _+_, _≤_, _<_}
+use Prim.Native.Nat.{ℕ, zero, suc, _≤_, _<_}
 use mathlib.Core.Path.{_≡_, refl}
 use mathlib.Core.List.{List, [], _∷_}
 use native.Mathlib.Omega.{arith}
@@ -8,15 +8,14 @@ use lib.Dec.{eqb}
 use lib.ListN.{length, getD}
 use Rattle.base.proofs.Tests.{pick-both, pick-each}
 use Rattle.face.specs.Reads.{numberOf}
-use Rattle.face.specs.declared.Transfer.{Transfer}
 use Rattle.face.specs.declared.Answer.{Answer}
 use Rattle.face.specs.declared.Answer.the-variants.{Done, NoRegister, OutOfShape, WrongLength, NoTransfer, SetupRefused}
 use Rattle.face.specs.declared.Action.the-variants.{ReadWord, WriteWord}
 use Rattle.fastpath.specs.Dev.{ignoredOf}
-use Rattle.disk.specs.Actions.{actOf}
 use Rattle.device.specs.Alone.{aloneOf}
 use Rattle.device.specs.declared.Device.{Device}
-use Rattle.laws.proofs.Endings.{wordsLeft, Bytes, most-words, Word, act-fewer}
+use Rattle.laws.proofs.Endings.{wordsLeft, Bytes, most-words, act-fewer}
+use Rattle.laws.proofs.Endings.Word.{Read, Written}
 use Rattle.layout.specs.Stored.{transferStored}
 use Rattle.words.specs.Words.{Handed, readWordsOf, Taken, writeWordsOf}
 
@@ -33,9 +32,9 @@ unfolding readWordsOf aloneOf ignoredOf
 handed-left zero d m b = omega arith
 handed-left (suc n) d m b =
     pick-each (λ (h : Handed). length (h .words) ≤ wordsLeft (d .face .hot .transfer)) (eqb (aloneOf d m ReadWord .outcome .number) 0) _ _
-    (λ e. let k = act-fewer (d .face) (d .secrets) m Word.Read b (number-done _ (eqb-true _ _ e)) in
-      let r = handed-left n (aloneOf d m ReadWord .outcome .device) (aloneOf d m ReadWord .sectors) (k .bytes) in
-      omega (arith, k .less, r))
+    (λ e. let k = act-fewer (d .face) (d .secrets) m Read b (number-done _ (eqb-true _ _ e)) in
+    let r = handed-left n (aloneOf d m ReadWord .outcome .device) (aloneOf d m ReadWord .sectors) (k .bytes) in
+    omega (arith, k .less, r))
     (λ e. omega arith)
 
 taken-left : (ws : List ℕ) (d : Device) (m : List ℕ) → Bytes (d .face .hot .transfer) → writeWordsOf aloneOf ws d m .count ≤ wordsLeft (d .face .hot .transfer)
@@ -43,9 +42,9 @@ unfolding writeWordsOf aloneOf ignoredOf
 taken-left [] d m b = omega arith
 taken-left (w ∷ ws) d m b =
     pick-each (λ (t : Taken). t .count ≤ wordsLeft (d .face .hot .transfer)) (eqb (aloneOf d m (WriteWord w) .outcome .number) 0) _ _
-    (λ e. let k = act-fewer (d .face) (d .secrets) m (Word.Written w) b (number-done _ (eqb-true _ _ e)) in
-      let r = taken-left ws (aloneOf d m (WriteWord w) .outcome .device) (aloneOf d m (WriteWord w) .sectors) (k .bytes) in
-      omega (arith, k .less, r))
+    (λ e. let k = act-fewer (d .face) (d .secrets) m (Written w) b (number-done _ (eqb-true _ _ e)) in
+    let r = taken-left ws (aloneOf d m (WriteWord w) .outcome .device) (aloneOf d m (WriteWord w) .sectors) (k .bytes) in
+    omega (arith, k .less, r))
     (λ e. omega arith)
 
 -- the numbers of a transfer that bytes hold are bytes

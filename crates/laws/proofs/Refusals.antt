@@ -115,12 +115,17 @@ act-honest d m HardwareReset = inl refl
 act-honest d m PowerOn = inl refl
 act-honest d m Line = inl refl
 
--- every call of the host answers 0, or gives 0 and changes nothing
+-- every action answers 0, or gives 0 and changes nothing
+pub alone-honest : (d : Device) (m : List ℕ) (a : Action) → (aloneOf d m a .outcome .number ≡ 0) ⊎ Unchanged d m (aloneOf d m a)
+unfolding aloneOf
+alone-honest d m a = pick-both (λ (s : Step). Honest d m s) (ignoredOf (d .face .hot) a) _ _ (inl refl) (act-honest d m a)
+
+-- and so does every call of the host
 pub step-honest : (d : Device) (m : List ℕ) (a : Action) → (stepOf d m a .outcome .number ≡ 0) ⊎ Unchanged d m (stepOf d m a)
-unfolding stepOf aloneOf
+unfolding stepOf
 step-honest d m a =
     pick-both P (shapedOf d) _ _
-    (pick-both P (eqb (length m) (memoryLength d)) _ _ (pick-both P (ignoredOf (d .face .hot) a) _ _ (inl refl) (act-honest d m a)) (still WrongLength refl))
+    (pick-both P (eqb (length m) (memoryLength d)) _ _ (alone-honest d m a) (still WrongLength refl))
     (still OutOfShape refl)
   where
     still : (x : Answer) → valueOf x 0 ≡ 0 → Honest d m (shown d m x 0)

@@ -9,7 +9,6 @@ use lib.Dec.{ltb, eqb}
 use lib.ListN.{length, getD, take, drop, length-drop, take-append-drop}
 use lib.Seq.{drop-cons, drop-drop, take-all}
 use Rattle.base.proofs.Tests.{false≢true, both-true}
-use Rattle.device.specs.declared.Device.{Device}
 use Rattle.layout.specs.Stored.{markStored, transferAs, transferStored, hotStored, lockStored, settledStored, secretsStored, deviceStored, markFormed, marksFormed, noRunStored, transferFormedAs, transferFormed, formedOf, stateLength}
 use Rattle.layout.specs.Bytes.{markByte, transferBytes, hotBytes, lockByte, numberBytes, identityBytes, secretsBytes, restBytes, stateOf}
 

@@ -1,11 +1,11 @@
 -- The bytes of a device hold it, whatever its transfer: what is written is what is read.
 use Prim.Native.Nat.{ℕ, _+_, _*_, _/_, _%_}
 use mathlib.Core.Bool.{Bool, true, false}
-use mathlib.Core.Path.{_≡_, refl, sym, ap, _∙_}
-use mathlib.Core.List.{List, _∷_, _++_, append-assoc}
+use mathlib.Core.Path.{_≡_, refl, ap, _∙_}
+use mathlib.Core.List.{List, _++_, append-assoc}
 use native.Mathlib.Omega.{arith}
 use lib.ListN.{length, take, drop, replicate, length-append}
-use lib.Seq.{take-at, drop-at, drop-drop, take-all}
+use lib.Seq.{take-at, drop-at, take-all}
 use Rattle.lock.specs.declared.Lock.{Lock}
 use Rattle.lock.specs.declared.Lock.the-variants.{Open, Locked, Frozen}
 use Rattle.lock.specs.declared.Purpose.{Purpose}
@@ -15,10 +15,9 @@ use Rattle.settled.specs.declared.Settled.{Settled}
 use Rattle.face.specs.declared.Transfer.{Transfer}
 use Rattle.face.specs.declared.Transfer.the-variants.{Idle, Reading, Writing, ReadingBuffer, WritingBuffer, TakingPassword}
 use Rattle.face.specs.declared.Hot.{Hot}
-use Rattle.face.specs.declared.Face.{Face}
 use Rattle.device.specs.declared.Device.{Device}
 use Rattle.layout.specs.Stored.{markStored, transferStored, hotStored, lockStored, settledStored, secretsStored, deviceStored}
-use Rattle.layout.specs.Bytes.{markByte, hotBytes, lockByte, identityBytes, secretsBytes, restBytes, stateOf}
+use Rattle.layout.specs.Bytes.{markByte, hotBytes, lockByte, restBytes, stateOf}
 
 -- the arrays of a device have the lengths of their types
 pub record Arrays (s : Settled) (x : Secrets) : Type 0 where
@@ -47,8 +46,10 @@ hot-forth h l = go (h .transfer)
   where
     with-transfer : Transfer → Hot
     with-transfer t = record { regs = h .regs; signals = h .signals; transfer = t }
+
     marks : (t : Transfer) → record { regs = h .regs; signals = record { held = markStored (markByte (h .signals .held)); masked = markStored (markByte (h .signals .masked)); raised = markStored (markByte (h .signals .raised)); failed = markStored (markByte (h .signals .failed)) }; transfer = t } ≡ with-transfer t
     marks t = rw (mark-forth (h .signals .held), mark-forth (h .signals .masked), mark-forth (h .signals .raised), mark-forth (h .signals .failed))
+
     go : (t : Transfer) → hotStored (hotBytes (with-transfer t) ++ l) ≡ with-transfer t
     go Idle = marks Idle
     go (Reading r) = marks (Reading r)
@@ -97,9 +98,10 @@ pieces s f m u p ls lf lm lu lp =
 behind-hot : (s : Settled) (x : Secrets) → Arrays s x
     → (settledStored (replicate 18 0 ++ restBytes s x) ≡ s) × (secretsStored (replicate 18 0 ++ restBytes s x) ≡ x)
 behind-hot s x k =
-    let p = pieces (s .identity .serial) (s .identity .firmware) (s .identity .model) (x .user) (x .master) (k .serial) (k .firmware) (k .model) (k .user) (k .master) in
-    (rw (pair-forth (s .geometry .cylinders), pair-forth (s .translation .cylinders), lock-forth (s .security .lock), mark-forth (s .security .enabled), mark-forth (s .security .maximum), mark-forth (s .security .prepared), p .serial, p .firmware, p .model),
-    rw (p .user, p .master))
+    let p = pieces (s .identity .serial) (s .identity .firmware) (s .identity .model) (x .user) (x .master) (k .serial) (k .firmware) (k .model) (k .user) (k .master) in (
+      rw (pair-forth (s .geometry .cylinders), pair-forth (s .translation .cylinders), lock-forth (s .security .lock), mark-forth (s .security .enabled), mark-forth (s .security .maximum), mark-forth (s .security .prepared), p .serial, p .firmware, p .model),
+      rw (p .user, p .master),
+    )
 
 rest-forth : (h : Hot) (s : Settled) (x : Secrets) → Arrays s x
     → (settledStored (hotBytes h ++ restBytes s x) ≡ s) × (secretsStored (hotBytes h ++ restBytes s x) ≡ x)
@@ -107,6 +109,7 @@ rest-forth h s x k = go (h .transfer)
   where
     bytes : Transfer → List ℕ
     bytes t = hotBytes (record { regs = h .regs; signals = h .signals; transfer = t }) ++ restBytes s x
+
     go : (t : Transfer) → (settledStored (bytes t) ≡ s) × (secretsStored (bytes t) ≡ x)
     go Idle = behind-hot s x k
     go (Reading r) = behind-hot s x k

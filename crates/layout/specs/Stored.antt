@@ -23,7 +23,6 @@ use Rattle.face.specs.declared.PasswordBlock.{PasswordBlock}
 use Rattle.face.specs.declared.Transfer.{Transfer}
 use Rattle.face.specs.declared.Transfer.the-variants.{Idle, Reading, Writing, ReadingBuffer, WritingBuffer, TakingPassword}
 use Rattle.face.specs.declared.Hot.{Hot}
-use Rattle.face.specs.declared.Face.{Face}
 use Rattle.device.specs.declared.Device.{Device}
 
 -- how many bytes the state has

@@ -22,14 +22,16 @@ same-length : tie.Need-same-length
 same-length c = search needs
 
 returns : tie.Need-returns
-returns c = (rw (c .before .before .before .put-secrets .ensures .0, c .before .before .before .before .before .before .before .put-identity .ensures .0, c .before .before .before .before .before .before .before .before .before .before .before .put-numbers .ensures, c .before .before .before .before .before .before .before .before .before .before .before .before .before .before .before .put-hot .ensures)
-    (put-all (c .before .before .before .before .before .before .before .before .before .before .before .before .before .before .before .before .before .before .before .before .before .args .state .now) (hotBytes (c .before .before .before .before .before .before .before .before .before .before .before .before .before .before .before .before .before .before .before .before .before .args .device .face .hot)) (numberBytes (c .before .before .before .before .before .before .before .before .before .before .before .before .before .before .before .before .before .before .before .before .before .args .device .face .settled))
-    (c .before .before .before .before .before .before .before .before .before .before .before .before .before .before .before .before .before .before .before .before .before .args .device .face .settled .identity .serial) (c .before .before .before .before .before .before .before .before .before .before .before .before .before .before .before .before .before .before .before .before .before .args .device .face .settled .identity .firmware) (c .before .before .before .before .before .before .before .before .before .before .before .before .before .before .before .before .before .before .before .before .before .args .device .face .settled .identity .model)
-    (c .before .before .before .before .before .before .before .before .before .before .before .before .before .before .before .before .before .before .before .before .before .args .device .secrets .user) (c .before .before .before .before .before .before .before .before .before .before .before .before .before .before .before .before .before .before .before .before .before .args .device .secrets .master)
-    (c .before .before .before .before .before .before .before .before .before .before .before .before .before .before .before .before .before .before .before .before .before .pre) (hot-bytes-long (c .before .before .before .before .before .before .before .before .before .before .before .before .before .before .before .before .before .before .before .before .before .args .device .face .hot)) refl
-    (c .before .before .before .before .before .before .before .put-identity .ensures .1 .0) (c .before .before .before .before .before .before .before .put-identity .ensures .1 .1 .0) (c .before .before .before .before .before .before .before .put-identity .ensures .1 .1 .1)
-    (c .before .before .before .put-secrets .ensures .1 .0) (c .before .before .before .put-secrets .ensures .1 .1)),
-    refl)
+returns c = (
+  rw (c .before .before .before .put-secrets .ensures .0, c .before .before .before .before .before .before .before .put-identity .ensures .0, c .before .before .before .before .before .before .before .before .before .before .before .put-numbers .ensures, c .before .before .before .before .before .before .before .before .before .before .before .before .before .before .before .put-hot .ensures)
+      (put-all (c .before .before .before .before .before .before .before .before .before .before .before .before .before .before .before .before .before .before .before .before .before .args .state .now) (hotBytes (c .before .before .before .before .before .before .before .before .before .before .before .before .before .before .before .before .before .before .before .before .before .args .device .face .hot)) (numberBytes (c .before .before .before .before .before .before .before .before .before .before .before .before .before .before .before .before .before .before .before .before .before .args .device .face .settled))
+      (c .before .before .before .before .before .before .before .before .before .before .before .before .before .before .before .before .before .before .before .before .before .args .device .face .settled .identity .serial) (c .before .before .before .before .before .before .before .before .before .before .before .before .before .before .before .before .before .before .before .before .before .args .device .face .settled .identity .firmware) (c .before .before .before .before .before .before .before .before .before .before .before .before .before .before .before .before .before .before .before .before .before .args .device .face .settled .identity .model)
+      (c .before .before .before .before .before .before .before .before .before .before .before .before .before .before .before .before .before .before .before .before .before .args .device .secrets .user) (c .before .before .before .before .before .before .before .before .before .before .before .before .before .before .before .before .before .before .before .before .before .args .device .secrets .master)
+      (c .before .before .before .before .before .before .before .before .before .before .before .before .before .before .before .before .before .before .before .before .before .pre) (hot-bytes-long (c .before .before .before .before .before .before .before .before .before .before .before .before .before .before .before .before .before .before .before .before .before .args .device .face .hot)) refl
+      (c .before .before .before .before .before .before .before .put-identity .ensures .1 .0) (c .before .before .before .before .before .before .before .put-identity .ensures .1 .1 .0) (c .before .before .before .before .before .before .before .put-identity .ensures .1 .1 .1)
+      (c .before .before .before .put-secrets .ensures .1 .0) (c .before .before .before .put-secrets .ensures .1 .1)),
+  refl,
+)
 
 pub put-device-spec : {M : Type 1} → statement M
 put-device-spec =
