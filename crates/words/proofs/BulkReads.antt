@@ -14,6 +14,7 @@ use Rattle.settled.specs.declared.Settled.{Settled}
 use Rattle.address.specs.declared.Address.{Address}
 use Rattle.address.specs.declared.Address.the-variants.{Names, Faults}
 use Rattle.block.specs.Words.{wordAt}
+use Rattle.face.specs.Face.{withTransfer}
 use Rattle.face.specs.Reads.{seen}
 use Rattle.face.specs.declared.Hot.{Hot}
 use Rattle.face.specs.declared.Run.{Run}
@@ -88,13 +89,13 @@ words-on h s b x m raised o (suc k) n p l =
 
 -- a sector is reached whatever the transfer was
 reached-same : (h : Hot) (s : Settled) (b m : List ℕ) (t : Transfer) (r : Run) (a : Address)
-    → readAs (faceWith (record { regs = h .regs; signals = h .signals; transfer = t }) s b) m r a ≡ readAs (faceWith h s b) m r a
+    → readAs (faceWith (withTransfer h t) s b) m r a ≡ readAs (faceWith h s b) m r a
 unfolding notFoundOf
 reached-same h s b m t r (Names y) = refl
 reached-same h s b m t r Faults = refl
 
 next-same : (h : Hot) (s : Settled) (b m : List ℕ) (t : Transfer) (r : Run)
-    → readNextOf (faceWith (record { regs = h .regs; signals = h .signals; transfer = t }) s b) m r ≡ readNextOf (faceWith h s b) m r
+    → readNextOf (faceWith (withTransfer h t) s b) m r ≡ readNextOf (faceWith h s b) m r
 unfolding readNextOf readAt
 next-same h s b m t r =
     ap (λ (f : Face). pick (ltb 0 (r .after)) f (readEnds (faceWith h s b) r))
@@ -102,7 +103,7 @@ next-same h s b m t r =
 
 -- the last word of a block, wherever in it the hot part stood
 word-last : (h : Hot) (s : Settled) (b : List ℕ) (x : Secrets) (m : List ℕ) (t : Transfer) → handsOut t ≡ true
-    → stepAs (effect (toldActed x (readWordAs (faceWith (record { regs = h .regs; signals = h .signals; transfer = placedAt t 255 }) s b) m (placedAt t 255))) m)
+    → stepAs (effect (toldActed x (readWordAs (faceWith (withTransfer h (placedAt t 255)) s b) m (placedAt t 255))) m)
     ≡ wordDone (deviceOf (readWordAs (faceWith h s b) m (placedAt t 255) .face) x) m (wordAt b 255)
 unfolding readRunOf readBufferWord
 word-last h s b x m Idle o = absurd (false≢true o)
@@ -153,12 +154,12 @@ words-whole h s b x m o k n p e g =
     (ap (λ (i : ℕ). wordsFrom b p k ++ (wordAt b i ∷ [])) (sym g) ∙ sym (from-last b k p))
 
 -- either
-pub words-up-to : (h : Hot) (s : Settled) (b : List ℕ) (x : Secrets) (m : List ℕ) → handsOut (h .transfer) ≡ true
+pub read-up-to : (h : Hot) (s : Settled) (b : List ℕ) (x : Secrets) (m : List ℕ) → handsOut (h .transfer) ≡ true
     → (k n p : ℕ) → p ≡ placeOf (h .transfer) → p < 256 → p + k ≤ 256
     → readWordsOf aloneOf (k + n) (deviceWith h s b x) m
     ≡ handsBehind (wordsFrom b p k) (readWordsOf aloneOf n (deviceOf (readUpTo (faceWith h s b) m (p + k)) x) m)
 unfolding readUpTo
-words-up-to h s b x m o k n p e l g = either-way (ltb (p + k) 256) within whole
+read-up-to h s b x m o k n p e l g = either-way (ltb (p + k) 256) within whole
   where
     within : ltb (p + k) 256 ≡ true
         → readWordsOf aloneOf (k + n) (deviceWith h s b x) m

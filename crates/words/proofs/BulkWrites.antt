@@ -61,17 +61,17 @@ pub behind-none : (t : Taken) → t ≡ takenBehind 0 t
 behind-none t = ap (λ (n : ℕ). record { count = n; device = t .device; sectors = t .sectors }) (sym (zero-add (t .count)))
 
 -- a word that passes or not, and those behind it
-abbrev taken-next : Bool → Device → List ℕ → Taken → Taken
-taken-next y d m t = pick y (takenBehind 1 t) (record { count = 0; device = d; sectors = m })
+abbrev takenNext : Bool → Device → List ℕ → Taken → Taken
+takenNext y d m t = pick y (takenBehind 1 t) (record { count = 0; device = d; sectors = m })
 
 append-next : (r : Rules) (ws l : List ℕ) (d : Device) (m : List ℕ) (s : Step) (y : Bool)
     → (writeWordsOf r ws (s .outcome .device) (s .sectors) .count ≡ length ws
     → writeWordsOf r (ws ++ l) (s .outcome .device) (s .sectors)
     ≡ takenBehind (length ws) (writeWordsOf r l (writeWordsOf r ws (s .outcome .device) (s .sectors) .device) (writeWordsOf r ws (s .outcome .device) (s .sectors) .sectors)))
-    → taken-next y d m (writeWordsOf r ws (s .outcome .device) (s .sectors)) .count ≡ suc (length ws)
-    → taken-next y d m (writeWordsOf r (ws ++ l) (s .outcome .device) (s .sectors))
+    → takenNext y d m (writeWordsOf r ws (s .outcome .device) (s .sectors)) .count ≡ suc (length ws)
+    → takenNext y d m (writeWordsOf r (ws ++ l) (s .outcome .device) (s .sectors))
     ≡ takenBehind (suc (length ws))
-    (writeWordsOf r l (taken-next y d m (writeWordsOf r ws (s .outcome .device) (s .sectors)) .device) (taken-next y d m (writeWordsOf r ws (s .outcome .device) (s .sectors)) .sectors))
+    (writeWordsOf r l (takenNext y d m (writeWordsOf r ws (s .outcome .device) (s .sectors)) .device) (takenNext y d m (writeWordsOf r ws (s .outcome .device) (s .sectors)) .sectors))
 append-next r ws l d m s true rest e =
     let n : 1 + length ws ≡ suc (length ws) = omega arith in
     ap (takenBehind 1) (rest (omega arith)) ∙ taken-behind 1 (length ws) _
@@ -178,14 +178,14 @@ words-within h s b x m o ws l p e g =
     ∙ words-in h s x m (h .signals .raised) o ws l b p g
 
 -- what words of a block leave, which are put from place p on
-abbrev pub taken-to : Hot → Settled → List ℕ → Secrets → List ℕ → List ℕ → List ℕ → ℕ → Taken
-taken-to h s b x m ws l p =
+abbrev pub takenTo : Hot → Settled → List ℕ → Secrets → List ℕ → List ℕ → List ℕ → ℕ → Taken
+takenTo h s b x m ws l p =
     takenBehind (length ws) (writeWordsOf aloneOf l (deviceOf (writtenUpTo (faceWith h s (putAll b p ws)) (p + length ws)) x) (storedUpTo (faceWith h s (putAll b p ws)) m (p + length ws)))
 
 -- and behind its last word
 words-whole : (h : Hot) (s : Settled) (b : List ℕ) (x : Secrets) (m : List ℕ) → takesIn (h .transfer) ≡ true → takesTo (h .transfer) ≡ 256
     → (ws l : List ℕ) (w p : ℕ) → p ≡ placeOf (h .transfer) → p + length ws ≡ 255
-    → writeWordsOf aloneOf (ws ++ (w ∷ l)) (deviceWith h s b x) m ≡ taken-to h s b x m (ws ++ (w ∷ [])) l p
+    → writeWordsOf aloneOf (ws ++ (w ∷ l)) (deviceWith h s b x) m ≡ takenTo h s b x m (ws ++ (w ∷ [])) l p
 words-whole h s b x m o t ws l w p e g =
     let long : length (ws ++ (w ∷ [])) ≡ length ws + 1 = length-append ws (w ∷ []) in
     let behind : 256 ≡ p + length (ws ++ (w ∷ [])) = omega arith in
@@ -216,15 +216,15 @@ takes-most (WritingBuffer n) h = refl
 takes-most (TakingPassword p) h = absurd (omega arith)
 
 -- either
-pub words-up-to : (h : Hot) (s : Settled) (b : List ℕ) (x : Secrets) (m : List ℕ) (ws l : List ℕ) (p : ℕ) → p ≡ placeOf (h .transfer)
-    → p < takesTo (h .transfer) → p + length ws ≤ takesTo (h .transfer) → writeWordsOf aloneOf (ws ++ l) (deviceWith h s b x) m ≡ taken-to h s b x m ws l p
+pub written-up-to : (h : Hot) (s : Settled) (b : List ℕ) (x : Secrets) (m : List ℕ) (ws l : List ℕ) (p : ℕ) → p ≡ placeOf (h .transfer)
+    → p < takesTo (h .transfer) → p + length ws ≤ takesTo (h .transfer) → writeWordsOf aloneOf (ws ++ l) (deviceWith h s b x) m ≡ takenTo h s b x m ws l p
 unfolding writtenUpTo storedUpTo
-words-up-to h s b x m ws l p e i g = either-way (ltb (p + length ws) 256) within whole
+written-up-to h s b x m ws l p e i g = either-way (ltb (p + length ws) 256) within whole
   where
     o : takesIn (h .transfer) ≡ true
     o = takes-word (h .transfer) (omega arith)
 
-    within : ltb (p + length ws) 256 ≡ true → writeWordsOf aloneOf (ws ++ l) (deviceWith h s b x) m ≡ taken-to h s b x m ws l p
+    within : ltb (p + length ws) 256 ≡ true → writeWordsOf aloneOf (ws ++ l) (deviceWith h s b x) m ≡ takenTo h s b x m ws l p
     within q =
         let j = ltb-true (p + length ws) 256 q in
         words-within h s b x m o ws l p e (omega arith)
@@ -232,7 +232,7 @@ words-up-to h s b x m ws l p e i g = either-way (ltb (p + length ws) 256) within
         (deviceOf (pick y (faceAt (faceWith h s (putAll b p ws)) (p + length ws)) (blockTaken (faceWith h s (putAll b p ws)) (h .transfer))) x)
         (pick y m (blockStored (faceWith h s (putAll b p ws)) m (h .transfer))))) (sym q)
 
-    whole : ltb (p + length ws) 256 ≡ false → writeWordsOf aloneOf (ws ++ l) (deviceWith h s b x) m ≡ taken-to h s b x m ws l p
+    whole : ltb (p + length ws) 256 ≡ false → writeWordsOf aloneOf (ws ++ l) (deviceWith h s b x) m ≡ takenTo h s b x m ws l p
     whole q =
         let j = ltb-false (p + length ws) 256 q in
         let t : takesTo (h .transfer) ≡ 256 = takes-most (h .transfer) (omega arith) in
@@ -243,4 +243,4 @@ words-up-to h s b x m ws l p e i g = either-way (ltb (p + length ws) 256) within
         ap (λ (c : List ℕ). writeWordsOf aloneOf (c ++ l) (deviceWith h s b x) m) split
         ∙ ap (λ (c : List ℕ). writeWordsOf aloneOf c (deviceWith h s b x) m) (append-assoc (take (length ws - 1) ws) (getD ws (length ws - 1) 0 ∷ []) l)
         ∙ words-whole h s b x m o t (take (length ws - 1) ws) l (getD ws (length ws - 1) 0) p e (omega arith)
-        ∙ ap (λ (c : List ℕ). taken-to h s b x m c l p) (sym split)
+        ∙ ap (λ (c : List ℕ). takenTo h s b x m c l p) (sym split)

@@ -15,7 +15,7 @@ pub words-append : (xs ys : List ℕ) → length xs % 2 ≡ 0 → wordsIn (xs ++
 unfolding wordsIn
 words-append [] ys e = refl
 words-append (x ∷ []) ys e = absurd (omega arith)
-words-append (x ∷ y ∷ l) ys e = ap (λ (w : List ℕ). (x + 256 * y) ∷ w) (words-append l ys (omega arith))
+words-append (x ∷ y ∷ l) ys e = rw (words-append l ys (omega arith))
 
 -- the words of a part of a block
 pub words-from : (b : List ℕ) (p k : ℕ) → 2 * p + 2 * k ≤ length b → wordsIn (take (2 * k) (drop (2 * p) b)) ≡ wordsFrom b p k

@@ -18,7 +18,7 @@ use Rattle.words.specs.Words.{handsNone, readWordsOf, wordsIn}
 use Rattle.words.specs.Blocks.{faceWith, readUpTo, Moved}
 use Rattle.words.specs.Bulk.{deviceWith, Reads}
 use Rattle.words.proofs.Bytes.{words-append, words-from}
-use Rattle.words.proofs.BulkReads.{handsBehind, behind-behind, words-up-to, reads-none}
+use Rattle.words.proofs.BulkReads.{handsBehind, behind-behind, read-up-to, reads-none}
 
 pub record Handing (h₀ : Hot) (s : Settled) (b₀ m out₀ : List ℕ) (h : Hot) (b out : List ℕ) (words : ℕ) : Type 0 where
   pub is : (x : Secrets) → readWordsOf aloneOf (length out₀ / 2) (deviceWith h₀ s b₀ x) m
@@ -65,7 +65,7 @@ handing-more {h₀} {s} {b₀} {m} {out₀} {h} {b} {out} {words} k o whole p e 
           k .is x
           ∙ ap (handsBehind (wordsIn (take (2 * words) out)))
           (ap (λ (i : ℕ). readWordsOf aloneOf i (deviceWith h s b x) m) n
-          ∙ words-up-to h s b x m o c (length out₀ / 2 - (words + c)) p e l u
+          ∙ read-up-to h s b x m o c (length out₀ / 2 - (words + c)) p e l u
           ∙ ap (λ (i : Face). handsBehind (wordsFrom b p c) (readWordsOf aloneOf (length out₀ / 2 - (words + c)) (deviceOf i x) m)) (sym f))
           ∙ behind-behind (wordsIn (take (2 * words) out)) (wordsFrom b p c) (readWordsOf aloneOf (length out₀ / 2 - (words + c)) (deviceWith h′ s b′ x) m)
           ∙ ap (λ (i : List ℕ). handsBehind i (readWordsOf aloneOf (length out₀ / 2 - (words + c)) (deviceWith h′ s b′ x) m))

@@ -20,7 +20,7 @@ use Rattle.words.specs.Words.{Taken, takenBehind, writeWordsOf, wordsIn}
 use Rattle.words.specs.Blocks.{faceWith, takesTo, takesHere, writtenUpTo, storedUpTo, Moved}
 use Rattle.words.specs.Bulk.{deviceWith, Writes}
 use Rattle.words.proofs.Bytes.{words-append, front-length, put-pasted}
-use Rattle.words.proofs.BulkWrites.{writes-append, words-up-to}
+use Rattle.words.proofs.BulkWrites.{writes-append, written-up-to}
 
 pub record Taking (h₀ : Hot) (s : Settled) (b₀ m₀ bytes : List ℕ) (h : Hot) (b m : List ℕ) (words : ℕ) : Type 0 where
   pub passed : (x : Secrets) → writeWordsOf aloneOf (wordsIn (take (2 * words) bytes)) (deviceWith h₀ s b₀ x) m₀
@@ -73,7 +73,7 @@ unfolding writeWordsOf
 turn-taken h s b x m ws p e i c n u b′ v h′ f m′ g =
     let z : c + 0 ≡ c = omega arith in
     ap (λ (l : List ℕ). writeWordsOf aloneOf l (deviceWith h s b x) m) (sym (append-nil ws))
-    ∙ words-up-to h s b x m ws [] p e i (omega arith)
+    ∙ written-up-to h s b x m ws [] p e i (omega arith)
     ∙ ap (λ (k : ℕ). takenBehind k (record { count = 0; device = deviceOf (writtenUpTo (faceWith h s (putAll b p ws)) (p + k)) x; sectors = storedUpTo (faceWith h s (putAll b p ws)) m (p + k) })) n
     ∙ ap (λ (q : List ℕ). takenBehind c (record { count = 0; device = deviceOf (writtenUpTo (faceWith h s q) (p + c)) x; sectors = storedUpTo (faceWith h s q) m (p + c) })) v
     ∙ (λ k. record { count = z k; device = deviceOf (sym f k) x; sectors = sym g k })

@@ -26,8 +26,7 @@ pub record Reads (h : Hot) (s : Settled) (b m out : List ℕ) (r : Passed) (afte
   pub long : length written ≡ length out
   pub behind : drop (2 * r .words) written ≡ drop (2 * r .words) out
 
--- the words that single writes take, whatever the passwords are, but for a password block's last: where those that passed lead, and
--- that single writes of the rest from there on come to the same
+-- the words that single writes take, whatever the passwords are, but for a password block's last: where they lead, and that from there the rest comes to the same
 pub record Writes (h : Hot) (s : Settled) (b m bytes : List ℕ) (r : Passed) (after m' : List ℕ) : Type 0 where
   pub passed : (x : Secrets) → writeWordsOf aloneOf (wordsIn (take (2 * r .words) bytes)) (deviceWith h s b x) m
       ≡ record { count = r .words; device = deviceWith (r .hot) s after x; sectors = m' }

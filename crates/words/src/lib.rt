@@ -30,6 +30,7 @@ fn least(a: usize, b: usize) -> usize
     b
 }
 
+// Bytes of one slice, from `at` on, become those of another, from `put` on.
 fn copy(from: &[u8], at: usize, to: &mut [u8], put: usize, size: usize)
     requires { ⌜ Reach (now from) at (now to) put size ⌝ }
     ensures { λ _. ⌜ Moved (now (from .entry)) at (now (to .entry)) put size (now (to .exit)) ⌝ }
