@@ -34,8 +34,8 @@ handed-left zero d m b = omega arith
 handed-left (suc n) d m b =
     pick-each (λ (h : Handed). length (h .words) ≤ wordsLeft (d .face .hot .transfer)) (eqb (aloneOf d m ReadWord .outcome .number) 0) _ _
     (λ e. let k = act-fewer (d .face) (d .secrets) m Word.Read b (number-done _ (eqb-true _ _ e)) in
-      let r = handed-left n (aloneOf d m ReadWord .outcome .device) (aloneOf d m ReadWord .sectors) (k .bytes) in
-      omega (arith, k .less, r))
+    let r = handed-left n (aloneOf d m ReadWord .outcome .device) (aloneOf d m ReadWord .sectors) (k .bytes) in
+    omega (arith, k .less, r))
     (λ e. omega arith)
 
 taken-left : (ws : List ℕ) (d : Device) (m : List ℕ) → Bytes (d .face .hot .transfer) → writeWordsOf aloneOf ws d m .count ≤ wordsLeft (d .face .hot .transfer)
@@ -44,8 +44,8 @@ taken-left [] d m b = omega arith
 taken-left (w ∷ ws) d m b =
     pick-each (λ (t : Taken). t .count ≤ wordsLeft (d .face .hot .transfer)) (eqb (aloneOf d m (WriteWord w) .outcome .number) 0) _ _
     (λ e. let k = act-fewer (d .face) (d .secrets) m (Word.Written w) b (number-done _ (eqb-true _ _ e)) in
-      let r = taken-left ws (aloneOf d m (WriteWord w) .outcome .device) (aloneOf d m (WriteWord w) .sectors) (k .bytes) in
-      omega (arith, k .less, r))
+    let r = taken-left ws (aloneOf d m (WriteWord w) .outcome .device) (aloneOf d m (WriteWord w) .sectors) (k .bytes) in
+    omega (arith, k .less, r))
     (λ e. omega arith)
 
 -- the numbers of a transfer that bytes hold are bytes

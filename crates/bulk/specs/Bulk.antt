@@ -16,14 +16,14 @@ use Rattle.device.specs.Host.{stepOf}
 use Rattle.device.specs.declared.Device.{Device}
 use Rattle.layout.specs.Stored.{secretsStored, deviceStored}
 use Rattle.layout.specs.Bytes.{stateOf}
-use Rattle.lent.specs.Lent.{replyOf, Lent, turnedAway, Gives, admissionOf}
+use Rattle.lent.specs.Lent.{hostReply, Lent, leftAlone, GivesBack, admissionOf}
 use Rattle.lent.specs.declared.Reply.{Reply}
 use Rattle.words.specs.Words.{readWordsOf, writeWordsOf, wordsIn}
 use Rattle.words.specs.Bulk.{deviceWith}
 
 -- k words of n that were wanted: how many passed; "data word with no transfer that way" where none did
 unfoldable pub countedReply : ℕ → ℕ → Reply
-countedReply k n = pick (eqb k 0) (pick (eqb n 0) (replyOf 0 0) (replyOf (numberOf NoTransfer) 0)) (replyOf 0 k)
+countedReply k n = pick (eqb k 0) (pick (eqb n 0) (hostReply 0 0) (hostReply (numberOf NoTransfer) 0)) (hostReply 0 k)
 
 -- the device that they lead to, written back
 abbrev pub countedLent : ℕ → ℕ → Device → List ℕ → Lent
@@ -32,11 +32,11 @@ countedLent k n d m = record { reply = countedReply k n; state = stateOf d; buff
 -- a call that is let in, or why it is turned away
 abbrev pub letIn : List ℕ → List ℕ → List ℕ → Lent → Answer → Lent
 letIn b x m l Done = l
-letIn b x m l NoRegister = turnedAway b x m NoRegister
-letIn b x m l OutOfShape = turnedAway b x m OutOfShape
-letIn b x m l WrongLength = turnedAway b x m WrongLength
-letIn b x m l NoTransfer = turnedAway b x m NoTransfer
-letIn b x m l SetupRefused = turnedAway b x m SetupRefused
+letIn b x m l NoRegister = leftAlone b x m NoRegister
+letIn b x m l OutOfShape = leftAlone b x m OutOfShape
+letIn b x m l WrongLength = leftAlone b x m WrongLength
+letIn b x m l NoTransfer = leftAlone b x m NoTransfer
+letIn b x m l SetupRefused = leftAlone b x m SetupRefused
 
 -- the words of a call that is let in
 abbrev pub wordsLetIn : List ℕ → Answer → List ℕ
@@ -68,7 +68,7 @@ wordsLent b x m n = wordsLetIn (wordsAdmitted b x m n) (admissionOf b m)
 
 -- the call gives this, and these words into the first bytes of `out`, low byte first; the bytes behind them stay
 pub record ReadsLent (l : Lent) (ws out : List ℕ) (r : Reply) (b x m out' : List ℕ) : Type 0 where
-  pub gives : Gives l r b x m
+  pub gives : GivesBack l r b x m
   pub words : wordsIn (take (2 * length ws) out') ≡ ws
   pub long : length out' ≡ length out
   pub behind : drop (2 * length ws) out' ≡ drop (2 * length ws) out

@@ -3,7 +3,7 @@ ghost use mathlib.Core.Path.{_≡_};
 ghost use Prim.Native.Nat.{_+_, _*_, _/_, _≤_};
 ghost use lib.ListN.{length};
 ghost use Rattle.transfers.specs.Sectors.{Memory};
-ghost use Rattle.lent.specs.Lent.{Admitted, Gives};
+ghost use Rattle.lent.specs.Lent.{Admitted, GivesBack};
 ghost use Rattle.words.specs.Words.{wordsIn};
 ghost use Rattle.bulk.specs.Bulk.{countedReply, LastWord, readsAdmitted, wordsAdmitted, readLent, wordsLent, ReadsLent, writesAdmitted, writeLent};
 use device::Device;
@@ -30,12 +30,7 @@ fn counted(passed: usize, wanted: usize) -> Reply
 }
 
 // Words are read from a device in shape over its memory.
-fn read_admitted(
-    state: &mut [u8],
-    buffer: &mut [u8; 512],
-    sectors: &[u8],
-    out: &mut [u8],
-) -> Reply
+fn read_admitted(state: &mut [u8], buffer: &mut [u8; 512], sectors: &[u8], out: &mut [u8]) -> Reply
     requires { ⌜ Admitted (now state) (now buffer) (now sectors) ⌝ }
     ensures { λ r. ⌜ ReadsLent (readsAdmitted (now (state .entry)) (now (buffer .entry)) (now (sectors .entry)) (length (now (out .entry)) / 2)) (wordsAdmitted (now (state .entry)) (now (buffer .entry)) (now (sectors .entry)) (length (now (out .entry)) / 2)) (now (out .entry)) r (now (state .exit)) (now (buffer .exit)) (now (sectors .entry)) (now (out .exit)) ⌝ }
 {
@@ -48,12 +43,7 @@ fn read_admitted(
 }
 
 // Data words are read into `out`, as many as it has room for, up to the first that is turned away.
-pub fn read_words(
-    state: &mut [u8],
-    buffer: &mut [u8; 512],
-    sectors: &[u8],
-    out: &mut [u8],
-) -> Reply
+pub fn read_words(state: &mut [u8], buffer: &mut [u8; 512], sectors: &[u8], out: &mut [u8]) -> Reply
     ensures { λ r. ⌜ ReadsLent (readLent (now (state .entry)) (now (buffer .entry)) (now (sectors .entry)) (length (now (out .entry)) / 2)) (wordsLent (now (state .entry)) (now (buffer .entry)) (now (sectors .entry)) (length (now (out .entry)) / 2)) (now (out .entry)) r (now (state .exit)) (now (buffer .exit)) (now (sectors .entry)) (now (out .exit)) ⌝ }
 {
     let answer = lent::admission(state, sectors);
@@ -109,7 +99,7 @@ fn write_admitted(
     bytes: &[u8],
 ) -> Reply
     requires { ⌜ Admitted (now state) (now buffer) (now sectors) ⌝ }
-    ensures { λ r. ⌜ Gives (writesAdmitted (now (state .entry)) (now (buffer .entry)) (now (sectors .entry)) (wordsIn (now (bytes .entry)))) r (now (state .exit)) (now (buffer .exit)) (now (sectors .exit)) ⌝ }
+    ensures { λ r. ⌜ GivesBack (writesAdmitted (now (state .entry)) (now (buffer .entry)) (now (sectors .entry)) (wordsIn (now (bytes .entry)))) r (now (state .exit)) (now (buffer .exit)) (now (sectors .exit)) ⌝ }
 {
     let hot = layout::hot_at(state);
     let settled = layout::settled_at(state);
@@ -136,7 +126,7 @@ pub fn write_words(
     sectors: &mut [u8],
     bytes: &[u8],
 ) -> Reply
-    ensures { λ r. ⌜ Gives (writeLent (now (state .entry)) (now (buffer .entry)) (now (sectors .entry)) (wordsIn (now (bytes .entry)))) r (now (state .exit)) (now (buffer .exit)) (now (sectors .exit)) ⌝ }
+    ensures { λ r. ⌜ GivesBack (writeLent (now (state .entry)) (now (buffer .entry)) (now (sectors .entry)) (wordsIn (now (bytes .entry)))) r (now (state .exit)) (now (buffer .exit)) (now (sectors .exit)) ⌝ }
 {
     let answer = lent::admission(state, sectors);
     match answer {

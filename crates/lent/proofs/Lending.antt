@@ -30,7 +30,7 @@ use Rattle.layout.specs.Stored.{hotStored, settledStored, secretsStored, geomet
 use Rattle.layout.specs.Bytes.{hotBytes, restBytes, stateOf}
 use Rattle.layout.proofs.Puts.{hot-bytes-long}
 use Rattle.layout.proofs.Back.{formed-clauses, rest-back, state-back}
-use Rattle.lent.specs.Lent.{replyOf, Lent, turnedAway, lentOf, lentStep, Gives, Admitted, admissionOf}
+use Rattle.lent.specs.Lent.{hostReply, Lent, leftAlone, lentOf, lentStep, GivesBack, Admitted, admissionOf}
 use Rattle.lent.specs.declared.Reply.{Reply}
 
 pub formed-long : (b : List ℕ) → formedOf b ≡ true → length b ≡ 163
@@ -100,7 +100,7 @@ unfolding lentStep
 lent-ready b x m a k = rw (k .formed) (ap lentOf (ready-step (deviceStored b x) m a (k .ready)))
 
 -- turned away, it leaves everything
-turned-away : (b x m : List ℕ) (a : Action) → LowBytes b → isRefusal (admissionOf b m) ≡ true → lentStep b x m a ≡ turnedAway b x m (admissionOf b m)
+turned-away : (b x m : List ℕ) (a : Action) → LowBytes b → isRefusal (admissionOf b m) ≡ true → lentStep b x m a ≡ leftAlone b x m (admissionOf b m)
 unfolding lentStep admissionOf stepOf shapedOf
 turned-away b x m a k e =
     either-way (formedOf b)
@@ -112,16 +112,16 @@ turned-away b x m a k e =
     (λ f. rw f)
   where
     back : formedOf b ≡ true → (w : Answer)
-        → lentOf (shown (deviceStored b x) m w 0) ≡ record { reply = replyOf (numberOf w) (valueOf w 0); state = b; buffer = x; sectors = m }
+        → lentOf (shown (deviceStored b x) m w 0) ≡ record { reply = hostReply (numberOf w) (valueOf w 0); state = b; buffer = x; sectors = m }
     back f w =
-        ap (λ (s : List ℕ). record { reply = replyOf (numberOf w) (valueOf w 0); state = s; buffer = x; sectors = m })
+        ap (λ (s : List ℕ). record { reply = hostReply (numberOf w) (valueOf w 0); state = s; buffer = x; sectors = m })
         (state-back b x (formed-clauses b f) (k .geometry) (k .translation))
 
 pub away-gives : (b x m : List ℕ) (a : Action) (w : Answer) (r : Reply) → LowBytes b → w ≡ admissionOf b m → isRefusal w ≡ true
-    → r ≡ replyOf (numberOf w) 0 → Gives (lentStep b x m a) r b x m
+    → r ≡ hostReply (numberOf w) 0 → GivesBack (lentStep b x m a) r b x m
 away-gives b x m a w r k e f g =
     rw (turned-away b x m a k (sym (ap isRefusal e) ∙ f))
-    (record { reply = g ∙ ap (λ (v : Answer). replyOf (numberOf v) 0) e; state = refl; buffer = refl; sectors = refl })
+    (record { reply = g ∙ ap (λ (v : Answer). hostReply (numberOf v) 0) e; state = refl; buffer = refl; sectors = refl })
 
 -- ---- what the two ways leave
 
@@ -138,8 +138,8 @@ hot-put b h f k =
 -- the fast path: the hot part goes back, the buffer stands where it is
 pub settle-gives : (b x m : List ℕ) (a : Action) (s : Seen) (h : Hot) (r : Reply) (b' x' : List ℕ) → Admitted b x m → LowBytes b
     → h ≡ hotStored b → quickAlone h x a ≡ Settles s → x' ≡ quickAloneBuffer h x a
-    → r ≡ replyOf (numberOf (s .answer)) (valueOf (s .answer) (s .value)) → b' ≡ sets b 0 (hotBytes (s .hot))
-    → Gives (lentOf (aloneOf (deviceStored b x) m a)) r b' x' m
+    → r ≡ hostReply (numberOf (s .answer)) (valueOf (s .answer) (s .value)) → b' ≡ sets b 0 (hotBytes (s .hot))
+    → GivesBack (lentOf (aloneOf (deviceStored b x) m a)) r b' x' m
 settle-gives b x m a s h r b' x' k low eh q ex er eb =
     let q' : quickAlone (hotStored b) x a ≡ Settles s = rw eh at q in
     let x'' : x' ≡ quickAloneBuffer (hotStored b) x a = rw eh at ex in
@@ -148,12 +148,12 @@ settle-gives b x m a s h r b' x' k low eh q ex er eb =
 
 -- the long way: all of it goes back
 pub act-gives : (d e : Device) (m : List ℕ) (a : Action) (o : Outcome) (r : Reply) (b x m' : List ℕ) → e ≡ d
-    → o ≡ aloneOf e m a .outcome → m' ≡ aloneOf e m a .sectors → r ≡ replyOf (o .number) (o .value)
-    → b ≡ stateOf (o .device) → x ≡ o .device .face .buffer → Gives (lentOf (aloneOf d m a)) r b x m'
+    → o ≡ aloneOf e m a .outcome → m' ≡ aloneOf e m a .sectors → r ≡ hostReply (o .number) (o .value)
+    → b ≡ stateOf (o .device) → x ≡ o .device .face .buffer → GivesBack (lentOf (aloneOf d m a)) r b x m'
 act-gives d e m a o r b x m' ed eo em er eb ex =
     let p : o ≡ aloneOf d m a .outcome = eo ∙ ap (λ (z : Device). aloneOf z m a .outcome) ed in
     record {
-      reply = er ∙ ap (λ (z : Outcome). replyOf (z .number) (z .value)) p;
+      reply = er ∙ ap (λ (z : Outcome). hostReply (z .number) (z .value)) p;
       state = eb ∙ ap (λ (z : Outcome). stateOf (z .device)) p;
       buffer = ex ∙ ap (λ (z : Outcome). z .device .face .buffer) p;
       sectors = em ∙ ap (λ (z : Device). aloneOf z m a .sectors) ed;

@@ -18,8 +18,8 @@ use Rattle.layout.specs.Bytes.{stateOf}
 use Rattle.lent.specs.declared.Reply.{Reply}
 
 -- an answer's number and value, as the host gets them
-abbrev pub replyOf : ℕ → ℕ → Reply
-replyOf n v = record { answer = n; value = v }
+abbrev pub hostReply : ℕ → ℕ → Reply
+hostReply n v = record { answer = n; value = v }
 
 -- what a call gives, and what it leaves of all that was lent
 pub record Lent : Type 0 where
@@ -29,14 +29,14 @@ pub record Lent : Type 0 where
   pub sectors : List ℕ
 
 -- a call that is turned away: "0", "everything unchanged"
-abbrev pub turnedAway : List ℕ → List ℕ → List ℕ → Answer → Lent
-turnedAway b x m a = record { reply = replyOf (numberOf a) 0; state = b; buffer = x; sectors = m }
+abbrev pub leftAlone : List ℕ → List ℕ → List ℕ → Answer → Lent
+leftAlone b x m a = record { reply = hostReply (numberOf a) 0; state = b; buffer = x; sectors = m }
 
 -- a step of the device, written back
 abbrev pub lentOf : Step → Lent
 lentOf s =
     record {
-      reply = replyOf (s .outcome .number) (s .outcome .value);
+      reply = hostReply (s .outcome .number) (s .outcome .value);
       state = stateOf (s .outcome .device);
       buffer = s .outcome .device .face .buffer;
       sectors = s .sectors;
@@ -44,10 +44,10 @@ lentOf s =
 
 -- any host action on any lent bytes over any memory
 unfoldable pub lentStep : List ℕ → List ℕ → List ℕ → Action → Lent
-lentStep b x m a = pick (formedOf b) (lentOf (stepOf (deviceStored b x) m a)) (turnedAway b x m OutOfShape)
+lentStep b x m a = pick (formedOf b) (lentOf (stepOf (deviceStored b x) m a)) (leftAlone b x m OutOfShape)
 
 -- the call gives this and leaves that
-pub record Gives (l : Lent) (r : Reply) (b x m : List ℕ) : Type 0 where
+pub record GivesBack (l : Lent) (r : Reply) (b x m : List ℕ) : Type 0 where
   pub reply : r ≡ l .reply
   pub state : b ≡ l .state
   pub buffer : x ≡ l .buffer

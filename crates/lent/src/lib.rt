@@ -6,7 +6,7 @@ ghost use Rattle.face.specs.Reads.{numberOf, valueOf};
 ghost use Rattle.device.specs.Alone.{aloneOf};
 ghost use Rattle.layout.specs.Stored.{deviceStored};
 ghost use Rattle.layout.specs.Bytes.{hotBytes};
-ghost use Rattle.lent.specs.Lent.{replyOf, Admitted, admissionOf, lentOf, lentStep, Gives};
+ghost use Rattle.lent.specs.Lent.{hostReply, Admitted, admissionOf, lentOf, lentStep, GivesBack};
 ghost use Rattle.lent.specs.Setup.{zeroLent, lentSetup, Sets};
 use device::Device;
 use face::Action;
@@ -22,7 +22,7 @@ pub struct Reply {
 }
 
 pub fn answered(number: u8, value: u32) -> Reply
-    ensures { λ r. ⌜ r ≡ replyOf number value ⌝ }
+    ensures { λ r. ⌜ r ≡ hostReply number value ⌝ }
 {
     Reply {
         answer: number as u32,
@@ -31,7 +31,7 @@ pub fn answered(number: u8, value: u32) -> Reply
 }
 
 pub fn refused(answer: Answer) -> Reply
-    ensures { λ r. ⌜ r ≡ replyOf (numberOf answer) 0 ⌝ }
+    ensures { λ r. ⌜ r ≡ hostReply (numberOf answer) 0 ⌝ }
 {
     answered(answer.number(), 0)
 }
@@ -58,7 +58,7 @@ pub fn admission(state: &[u8], sectors: &[u8]) -> Answer
 // An action the long way: the whole device comes out of its bytes and goes back.
 pub fn act(state: &mut [u8], buffer: &mut [u8; 512], action: Action, sectors: &mut [u8]) -> Reply
     requires { ⌜ Admitted (now state) (now buffer) (now sectors) ⌝ }
-    ensures { λ r. ⌜ Gives (lentOf (aloneOf (deviceStored (now (state .entry)) (now (buffer .entry))) (now (sectors .entry)) action)) r (now (state .exit)) (now (buffer .exit)) (now (sectors .exit)) ⌝ }
+    ensures { λ r. ⌜ GivesBack (lentOf (aloneOf (deviceStored (now (state .entry)) (now (buffer .entry))) (now (sectors .entry)) action)) r (now (state .exit)) (now (buffer .exit)) (now (sectors .exit)) ⌝ }
 {
     let device = layout::device_at(state, buffer);
     let outcome = device.act(action, sectors);
@@ -71,7 +71,7 @@ pub fn act(state: &mut [u8], buffer: &mut [u8; 512], action: Action, sectors: &m
 // What the fast path settled: only the hot part goes back.
 fn settle(state: &mut [u8], seen: Seen) -> Reply
     requires { ⌜ length (now state) ≡ 163 ⌝ }
-    ensures { λ r. ⌜ (r ≡ replyOf (numberOf (seen .answer)) (valueOf (seen .answer) (seen .value))) × (now (state .exit) ≡ sets (now (state .entry)) 0 (hotBytes (seen .hot))) ⌝ }
+    ensures { λ r. ⌜ (r ≡ hostReply (numberOf (seen .answer)) (valueOf (seen .answer) (seen .value))) × (now (state .exit) ≡ sets (now (state .entry)) 0 (hotBytes (seen .hot))) ⌝ }
 {
     let hot = seen.hot;
     let answer = seen.answer;
@@ -83,7 +83,7 @@ fn settle(state: &mut [u8], seen: Seen) -> Reply
 // The same action, by the fast path where it settles it.
 fn step(state: &mut [u8], buffer: &mut [u8; 512], action: Action, sectors: &mut [u8]) -> Reply
     requires { ⌜ Admitted (now state) (now buffer) (now sectors) ⌝ }
-    ensures { λ r. ⌜ Gives (lentOf (aloneOf (deviceStored (now (state .entry)) (now (buffer .entry))) (now (sectors .entry)) action)) r (now (state .exit)) (now (buffer .exit)) (now (sectors .exit)) ⌝ }
+    ensures { λ r. ⌜ GivesBack (lentOf (aloneOf (deviceStored (now (state .entry)) (now (buffer .entry))) (now (sectors .entry)) action)) r (now (state .exit)) (now (buffer .exit)) (now (sectors .exit)) ⌝ }
 {
     let hot = layout::hot_at(state);
     match fastpath::quick(hot, buffer, action) {
@@ -94,7 +94,7 @@ fn step(state: &mut [u8], buffer: &mut [u8; 512], action: Action, sectors: &mut 
 
 // Any host action on any lent bytes over any memory.
 pub fn host(state: &mut [u8], buffer: &mut [u8; 512], action: Action, sectors: &mut [u8]) -> Reply
-    ensures { λ r. ⌜ Gives (lentStep (now (state .entry)) (now (buffer .entry)) (now (sectors .entry)) action) r (now (state .exit)) (now (buffer .exit)) (now (sectors .exit)) ⌝ }
+    ensures { λ r. ⌜ GivesBack (lentStep (now (state .entry)) (now (buffer .entry)) (now (sectors .entry)) action) r (now (state .exit)) (now (buffer .exit)) (now (sectors .exit)) ⌝ }
 {
     let answer = admission(state, sectors);
     match answer {

@@ -1,0 +1,91 @@
+-- A bulk read over lent bytes: what single reads of the device that the bytes hold give, and what they leave, written back.
+use Prim.Native.Nat.{ℕ, _*_, _/_, _≤_}
+use mathlib.Core.Path.{_≡_, refl, sym, ap, subst, _∙_}
+use mathlib.Core.Bool.{true}
+use mathlib.Core.List.{List, []}
+use lib.ListN.{length, take, drop}
+use lib.Seq.{sets}
+use Rattle.base.proofs.Tests.{false≢true}
+use Rattle.settled.specs.declared.Settled.{Settled}
+use Rattle.face.specs.Reads.{numberOf}
+use Rattle.face.specs.declared.Hot.{Hot}
+use Rattle.face.specs.declared.Answer.{Answer}
+use Rattle.face.specs.declared.Answer.the-variants.{Done, NoRegister, OutOfShape, WrongLength, NoTransfer, SetupRefused}
+use Rattle.device.specs.Alone.{aloneOf}
+use Rattle.device.specs.Host.{stepOf}
+use Rattle.laws.proofs.Endings.{Bytes}
+use Rattle.layout.specs.Stored.{hotStored, settledStored, secretsStored, deviceStored}
+use Rattle.layout.specs.Bytes.{hotBytes}
+use Rattle.lent.specs.Lent.{hostReply, Lent, GivesBack, Admitted, admissionOf}
+use Rattle.lent.specs.declared.Reply.{Reply}
+use Rattle.lent.proofs.Lending.{LowBytes, isRefusal, hot-put}
+use Rattle.words.specs.Words.{Handed, readWordsOf, wordsIn}
+use Rattle.words.specs.Bulk.{deviceWith, Reads}
+use Rattle.words.specs.declared.Passed.{Passed}
+use Rattle.words.proofs.Bytes.{front-length}
+use Rattle.words.proofs.Callers.{ready-reads}
+use Rattle.bulk.specs.Bulk.{countedReply, countedLent, letIn, wordsLetIn, wordsAdmitted, readsAdmitted, readLent, wordsLent, ReadsLent}
+use Rattle.bulk.proofs.Few.{few-handed}
+
+-- what the words led to, of the device that the bytes hold
+handed-stored : (b x m out : List ℕ) (h : Hot) (s : Settled) (p : Passed) (x' out' : List ℕ) → h ≡ hotStored b → s ≡ settledStored b
+    → Reads h s x m out p x' out'
+    → readWordsOf aloneOf (length out / 2) (deviceStored b x) m
+    ≡ record { words = wordsIn (take (2 * p .words) out'); device = deviceWith (p .hot) (settledStored b) x' (secretsStored b); sectors = m }
+handed-stored b x m out h s p x' out' eh es k =
+    ap (λ (z : Hot). readWordsOf aloneOf (length out / 2) (deviceWith z (settledStored b) x (secretsStored b)) m) (sym eh)
+    ∙ ap (λ (z : Settled). readWordsOf aloneOf (length out / 2) (deviceWith h z x (secretsStored b)) m) (sym es)
+    ∙ k .handed (secretsStored b)
+    ∙ ap (λ (z : Settled). record { words = wordsIn (take (2 * p .words) out'); device = deviceWith (p .hot) z x' (secretsStored b); sectors = m }) es
+
+words-passed : (out out' : List ℕ) (p : Passed) → length out' ≡ length out → 2 * p .words ≤ length out → length (wordsIn (take (2 * p .words) out')) ≡ p .words
+words-passed out out' p l h = front-length out' (p .words) (rw (sym l) at h)
+
+pub few-read : (b x m out : List ℕ) (h : Hot) (s : Settled) (p : Passed) (x' out' : List ℕ) → h ≡ hotStored b → s ≡ settledStored b
+    → Bytes (hotStored b .transfer) → Reads h s x m out p x' out' → p .words ≤ 65536
+few-read b x m out h s p x' out' eh es y k =
+    let e = handed-stored b x m out h s p x' out' eh es k in
+    let f = few-handed (length out / 2) (deviceStored b x) m y in
+    rw (ap (λ (z : Handed). length (z .words)) e ∙ words-passed out out' p (k .long) (k .below)) at f
+
+pub reads-gives : (b x m out : List ℕ) (h : Hot) (s : Settled) (p : Passed) (r : Reply) (b' x' out' : List ℕ) → Admitted b x m → LowBytes b
+    → h ≡ hotStored b → s ≡ settledStored b → Reads h s x m out p x' out' → b' ≡ sets b 0 (hotBytes (p .hot))
+    → r ≡ countedReply (p .words) (length out / 2)
+    → ReadsLent (readsAdmitted b x m (length out / 2)) (wordsAdmitted b x m (length out / 2)) out r b' x' m out'
+reads-gives b x m out h s p r b' x' out' a low eh es k eb er =
+    let e = ready-reads (length out / 2) (deviceStored b x) m (a .ready) ∙ handed-stored b x m out h s p x' out' eh es k in
+    let l = words-passed out out' p (k .long) (k .below) in
+    subst
+    (λ (z : Handed). ReadsLent (countedLent (length (z .words)) (length out / 2) (z .device) (z .sectors)) (z .words) out r b' x' m out')
+    (sym e)
+    (record {
+      gives = record { reply = er ∙ ap (λ (n : ℕ). countedReply n (length out / 2)) (sym l); state = eb ∙ hot-put b (p .hot) (a .formed) low; buffer = refl; sectors = refl };
+      words = ap (λ (n : ℕ). wordsIn (take (2 * n) out')) l;
+      long = k .long;
+      behind = ap (λ (n : ℕ). drop (2 * n) out') l ∙ k .behind ∙ ap (λ (n : ℕ). drop (2 * n) out) (sym l);
+    })
+
+-- let in
+pub reads-let-in : (b x m out : List ℕ) (r : Reply) (b' x' out' : List ℕ) → admissionOf b m ≡ Done
+    → ReadsLent (readsAdmitted b x m (length out / 2)) (wordsAdmitted b x m (length out / 2)) out r b' x' m out'
+    → ReadsLent (readLent b x m (length out / 2)) (wordsLent b x m (length out / 2)) out r b' x' m out'
+reads-let-in b x m out r b' x' out' e k = rw e k
+
+-- turned away
+pub reads-away : (b x m out : List ℕ) (w : Answer) (r : Reply) → w ≡ admissionOf b m → isRefusal w ≡ true → r ≡ hostReply (numberOf w) 0
+    → ReadsLent (readLent b x m (length out / 2)) (wordsLent b x m (length out / 2)) out r b x m out
+unfolding wordsIn
+reads-away b x m out w r e f g = rw (sym e) (go w f g)
+  where
+    away : (v : Answer) → r ≡ hostReply (numberOf v) 0
+        → ReadsLent (record { reply = hostReply (numberOf v) 0; state = b; buffer = x; sectors = m }) [] out r b x m out
+    away v k = record { gives = record { reply = k; state = refl; buffer = refl; sectors = refl }; words = refl; long = refl; behind = refl }
+
+    go : (v : Answer) → isRefusal v ≡ true → r ≡ hostReply (numberOf v) 0
+        → ReadsLent (letIn b x m (readsAdmitted b x m (length out / 2)) v) (wordsLetIn (wordsAdmitted b x m (length out / 2)) v) out r b x m out
+    go Done q k = absurd (false≢true q)
+    go NoRegister q k = away NoRegister k
+    go OutOfShape q k = away OutOfShape k
+    go WrongLength q k = away WrongLength k
+    go NoTransfer q k = away NoTransfer k
+    go SetupRefused q k = away SetupRefused k
