@@ -8,20 +8,8 @@ cd "$(dirname "$0")/.." || exit 2
 checked='-g -fsanitize=address,undefined -fno-sanitize-recover=all'
 # Nothing is allocated, and looking for leaks needs rights that not every machine gives.
 export ASAN_OPTIONS=detect_leaks=0
-failed=0
-
-# Runs one step; its output is shown where it fails, its last line where it passes.
-step() { # NAME COMMAND..
-    local name=$1 printed
-    shift
-    if printed=$("$@" 2>&1); then
-        echo "embedding: $name: $(tail -n 1 <<<"$printed")"
-    else
-        echo "embedding: $name: FAILED"
-        tail -n 40 <<<"$printed" | sed 's/^/  /'
-        failed=1
-    fi
-}
+steps_of='embedding'
+. tests/steps.sh
 
 # The ten calls and no other name; and nothing is wanted of others but what moves and compares bytes.
 symbols() {

@@ -5,20 +5,8 @@ set -u
 cd "$(dirname "$0")/.." || exit 2
 export CARGO_TARGET_DIR=build/cargo
 [ -z "${THINNAROM_LIBRARY:-}" ] || THINNAROM_LIBRARY=$(realpath "$THINNAROM_LIBRARY") || exit 2
-failed=0
-
-# Runs one step; its output is shown where it fails, its last line where it passes.
-step() { # NAME COMMAND..
-    local name=$1 printed
-    shift
-    if printed=$("$@" 2>&1); then
-        echo "embedding in Rust: $name: $(tail -n 1 <<<"$printed")"
-    else
-        echo "embedding in Rust: $name: FAILED"
-        tail -n 40 <<<"$printed" | sed 's/^/  /'
-        failed=1
-    fi
-}
+steps_of='embedding in Rust'
+. tests/steps.sh
 
 tests() {
     local printed

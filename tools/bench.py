@@ -182,6 +182,15 @@ def write_table(path, table, marks=(BEGIN_MARK, END_MARK)):
     path.write_text(text)
 
 
+def verdict(missed):
+    """Says what was missed, and the exit status that follows."""
+    if not shutil.which("valgrind"):
+        missed.append(f"instructions not counted: {INSTALL_HINT}")
+    for line in missed:
+        print(f"missed: {line}")
+    return 1 if missed else 0
+
+
 def main():
     arguments = parse_arguments()
     arguments.folder.mkdir(parents=True, exist_ok=True)
@@ -195,11 +204,7 @@ def main():
     print(f"\n{table}")
     write_table(arguments.table, table)
     missed = [line for row in rows for line in missed_targets(row)]
-    if not shutil.which("valgrind"):
-        missed.append(f"instructions not counted: {INSTALL_HINT}")
-    for line in missed:
-        print(f"missed: {line}")
-    return 1 if missed else 0
+    return verdict(missed)
 
 
 if __name__ == "__main__":

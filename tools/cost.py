@@ -13,7 +13,7 @@ import subprocess
 import sys
 from pathlib import Path
 
-from bench import INSTALL_HINT, write_table
+from bench import verdict, write_table
 
 MARKS = ("<!-- cost table begins -->", "<!-- cost table ends -->")
 LABELS = {
@@ -136,12 +136,7 @@ def main():
     table = table_text(arguments, times, counts)
     print(table)
     write_table(arguments.table, table, MARKS)
-    missed = list(missed_targets(times[0]))
-    if not shutil.which("valgrind"):
-        missed.append(f"instructions not counted: {INSTALL_HINT}")
-    for line in missed:
-        print(f"missed: {line}")
-    return 1 if missed else 0
+    return verdict(list(missed_targets(times[0])))
 
 
 if __name__ == "__main__":

@@ -73,6 +73,17 @@ fn refused(
     );
 }
 
+/// The same, on a disk and its own memory.
+fn refused_on(disk: &mut Raw, action: &Action, answer: u32) {
+    refused(
+        &mut disk.state,
+        &mut disk.buffer,
+        &mut disk.sectors,
+        action,
+        answer,
+    );
+}
+
 #[test]
 fn all_register_numbers_in_every_transfer_and_lock_state() {
     let random = &mut Random::new(SEED, 0);
@@ -92,13 +103,7 @@ fn all_register_numbers_in_every_transfer_and_lock_state() {
                     );
                     assert!(in_shape(&disk.state));
                 } else {
-                    refused(
-                        &mut disk.state,
-                        &mut disk.buffer,
-                        &mut disk.sectors,
-                        &action,
-                        1,
-                    );
+                    refused_on(&mut disk, &action, 1);
                 }
             }
         }
@@ -118,13 +123,7 @@ fn words_against_every_transfer() {
             .filter(|(turned_away, _)| *turned_away)
         {
             for action in actions {
-                refused(
-                    &mut disk.state,
-                    &mut disk.buffer,
-                    &mut disk.sectors,
-                    &action,
-                    4,
-                );
+                refused_on(&mut disk, &action, 4);
             }
         }
     }

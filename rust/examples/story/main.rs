@@ -265,14 +265,18 @@ impl Story {
         self.identify(plugin, 0x0007)
     }
 
-    fn asks_for_sectors(self, plugin: &mut Guest) -> Step {
+    fn asks_for_tokens(self, plugin: &mut Guest) -> Step {
         plugin.address(TOKENS_LBA as u32, TOKENS as u8)?;
         self.run(
             plugin,
             READ_SECTORS,
             "READ SECTORS (20h), LBA 16, 3 sectors",
             FAILED,
-        )?;
+        )
+    }
+
+    fn asks_for_sectors(self, plugin: &mut Guest) -> Step {
+        self.asks_for_tokens(plugin)?;
         self.run(
             plugin,
             READ_VERIFY_SECTORS,
@@ -339,13 +343,7 @@ impl Story {
         );
         self.run(plugin, ERASE_PREPARE, "SECURITY ERASE PREPARE (F3h)", IDLE)?;
         self.run(plugin, ERASE_UNIT, "SECURITY ERASE UNIT (F4h)", FAILED)?;
-        plugin.address(TOKENS_LBA as u32, TOKENS as u8)?;
-        self.run(
-            plugin,
-            READ_SECTORS,
-            "READ SECTORS (20h), LBA 16, 3 sectors",
-            FAILED,
-        )?;
+        self.asks_for_tokens(plugin)?;
         self.read_buffer(plugin, "READ BUFFER (E4h)")?;
         self.identify(plugin, 0x0017)
     }

@@ -3,12 +3,24 @@
 
 use super::view::*;
 
-/// The clauses of document 01's list, as far as the bytes can break them: they have no way to write
-/// a word place above 255, 0 or more than 256 sectors left, locked and frozen together, or a
-/// one-block command with more than one block left. The last five are what the table asks of the
-/// bytes, so that every device has just one form.
-#[derive(Clone, Copy, Debug, PartialEq, Eq)]
-pub enum Clause {
+/// An enum of these cases, and the list of them all.
+macro_rules! clauses {
+    ($(#[$about:meta])* $($clause:ident),+ $(,)?) => {
+        $(#[$about])*
+        #[derive(Clone, Copy, Debug, PartialEq, Eq)]
+        pub enum Clause {
+            $($clause),+
+        }
+
+        pub const CLAUSES: [Clause; [$(Clause::$clause),+].len()] = [$(Clause::$clause),+];
+    };
+}
+
+clauses! {
+    /// The clauses of document 01's list, as far as the bytes can break them: they have no way to write
+    /// a word place above 255, 0 or more than 256 sectors left, locked and frozen together, or a
+    /// one-block command with more than one block left. The last five are what the table asks of the
+    /// bytes, so that every device has just one form.
     GeometryOutsideTheLimits,
     IdentityOutsideTheLimits,
     TranslationNotAllowed,
@@ -31,28 +43,6 @@ pub enum Clause {
 }
 
 use Clause::*;
-
-pub const CLAUSES: [Clause; 19] = [
-    GeometryOutsideTheLimits,
-    IdentityOutsideTheLimits,
-    TranslationNotAllowed,
-    AttemptsAboveFive,
-    LockedWithoutSecurity,
-    CurrentSectorFaults,
-    TransferWithDev,
-    TransferWithResetHeld,
-    DevWithResetHeld,
-    SectorsWhileLocked,
-    SetOrDisableWhileLocked,
-    PasswordWhileFrozen,
-    NoAttemptsLeft,
-    EraseWithoutPreparation,
-    MarkNeither0Nor1,
-    NoSuchTransfer,
-    NoSuchLockState,
-    SectorWithoutTransfer,
-    PlaceWithoutTransfer,
-];
 
 pub const MARKS: [usize; 7] = [HELD, MASKED, RAISED, FAILED, ENABLED, MAXIMUM, PREPARED];
 
