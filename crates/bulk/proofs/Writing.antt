@@ -32,7 +32,7 @@ use Rattle.words.specs.Words.{Taken, takenBehind, writeWordsOf, wordsIn}
 use Rattle.words.specs.Bulk.{deviceWith, Writes}
 use Rattle.words.specs.declared.Passed.{Passed}
 use Rattle.words.proofs.Bytes.{words-length}
-use Rattle.words.proofs.Callers.{takesOne, writes-all, writes-next, ready-writes}
+use Rattle.words.proofs.Callers.{takesOne, writes-behind, writes-all, writes-next, ready-writes}
 use Rattle.bulk.specs.Bulk.{countedReply, letIn, writesAdmitted, writeLent, lastStep, LastWord}
 use Rattle.bulk.proofs.Few.{few-taken}
 
@@ -142,7 +142,7 @@ pub few-written : (b x m bytes : List ℕ) (h : Hot) (s : Settled) (p : Passed) 
     → Bytes (hotStored b .transfer) → Writes h s x m bytes p y m₁ → p .words ≤ 65536
 few-written b x m bytes h s p y m₁ eh es z k =
     let f = few-taken (wordsIn bytes) (deviceStored b x) m z in
-    let e = stored b x m bytes h s (λ (v : Settled). takenBehind (p .words) (writeWordsOf aloneOf (wordsIn (drop (2 * p .words) bytes)) (deviceWith (p .hot) v y (secretsStored b)) m₁)) eh es (k .taken (secretsStored b)) in
+    let e = stored b x m bytes h s (λ (v : Settled). takenBehind (p .words) (writeWordsOf aloneOf (drop (p .words) (wordsIn bytes)) (deviceWith (p .hot) v y (secretsStored b)) m₁)) eh es (writes-behind k (secretsStored b)) in
     let g = rw (ap (λ (t : Taken). t .count) e) at f in
     omega (arith, g)
 

@@ -10,7 +10,7 @@ use lib.ListN.{length, getD, take, length-append}
 use lib.Seq.{take-suc, take-length, length-take-le}
 use borrow.Author.Tests.{lt-ltb, ltb-true, ltb-false}
 use Rattle.base.specs.Choice.{pick}
-use Rattle.base.proofs.Tests.{either-way}
+use Rattle.base.proofs.Tests.{either-way, false≢true}
 use Rattle.lock.specs.declared.Secrets.{Secrets}
 use Rattle.settled.specs.declared.Settled.{Settled}
 use Rattle.address.specs.declared.Address.{Address}
@@ -24,6 +24,7 @@ use Rattle.face.specs.declared.Face.{Face}
 use Rattle.face.specs.declared.Transfer.{Transfer}
 use Rattle.face.specs.declared.Transfer.the-variants.{Idle, Reading, Writing, ReadingBuffer, WritingBuffer, TakingPassword}
 use Rattle.face.specs.declared.Answer.the-variants.{Done}
+use Rattle.face.specs.declared.Action.{Action}
 use Rattle.face.specs.declared.Action.the-variants.{WriteWord}
 use Rattle.fastpath.specs.Dev.{ignoredOf}
 use Rattle.transfers.specs.Sectors.{located, nextRun, endedWell, notFoundOf}
@@ -39,8 +40,8 @@ use Rattle.glance.specs.Places.{placeOf, runPlacedAt, placedAt, hotAt}
 use Rattle.glance.specs.Glances.{takesIn, writeGlance, writeGlanceBuffer, glanceOf, glanceBuffer}
 use Rattle.glance.proofs.Glancing.{hot-same, glance-settles, glance-buffer}
 use Rattle.words.specs.Words.{Taken, takenBehind, writeWordsOf}
-use Rattle.words.specs.Blocks.{faceWith, faceAt, takesTo, blockTaken, blockStored, writtenUpTo, storedUpTo}
-use Rattle.words.specs.Bulk.{deviceWith}
+use Rattle.words.specs.Blocks.{faceWith, faceAt, takesTo, takesHere, blockTaken, blockStored, writtenUpTo, storedUpTo}
+use Rattle.words.specs.Bulk.{deviceWith, hereOf}
 use Rattle.words.proofs.BulkReads.{wordDone}
 
 -- ---- single words
@@ -87,34 +88,48 @@ writes-append r (w ∷ ws) l d m e =
     append-next r ws l d m (r d m (WriteWord w)) (eqb (r d m (WriteWord w) .outcome .number) 0)
     (writes-append r ws l (r d m (WriteWord w) .outcome .device) (r d m (WriteWord w) .sectors)) e
 
+-- a word that is taken in here is the device's own
+here-step : (d : Device) (m : List ℕ) (a : Action) → takesHere (d .face .hot .transfer) ≡ true → hereOf d m a ≡ aloneOf d m a
+unfolding hereOf
+here-step d m a e = rw e
+
+takes-within : (t : Transfer) (p : ℕ) → takesIn t ≡ true → p < 255 → takesHere (placedAt t p) ≡ true
+takes-within Idle p o l = absurd (false≢true o)
+takes-within (Reading r) p o l = absurd (false≢true o)
+takes-within (Writing r) p o l = refl
+takes-within (ReadingBuffer n) p o l = absurd (false≢true o)
+takes-within (WritingBuffer n) p o l = refl
+takes-within (TakingPassword b) p o l = lt-ltb p 255 l
+
 -- a word that is not its block's last
 word-in : (h : Hot) (s : Settled) (b : List ℕ) (x : Secrets) (m : List ℕ) (p : ℕ) (raised : Bool) (w : ℕ) → takesIn (h .transfer) ≡ true → p < 255
-    → aloneOf (deviceWith (hotAt h p raised) s b x) m (WriteWord w) ≡ wordDone (deviceWith (hotAt h (p + 1) raised) s (wordPut b p w) x) m 0
+    → hereOf (deviceWith (hotAt h p raised) s b x) m (WriteWord w) ≡ wordDone (deviceWith (hotAt h (p + 1) raised) s (wordPut b p w) x) m 0
 unfolding glanceOf writeGlance glanceBuffer writeGlanceBuffer
 word-in h s b x m p raised w o l =
     let buffer : wordPut b p w ≡ glanceBuffer h p b (WriteWord w) = simp (o, lt-ltb p 255 l) in
-    quick-settles (deviceWith (hotAt h p raised) s b x) m (WriteWord w) (wordPut b p w) (seen (hotAt h (p + 1) raised) Done 0)
+    here-step (deviceWith (hotAt h p raised) s b x) m (WriteWord w) (takes-within (h .transfer) p o l)
+    ∙ quick-settles (deviceWith (hotAt h p raised) s b x) m (WriteWord w) (wordPut b p w) (seen (hotAt h (p + 1) raised) Done 0)
     (glance-settles h p raised b (WriteWord w) (p + 1) raised 0 (simp (o, lt-ltb p 255 l)))
     (buffer ∙ glance-buffer h p raised b (WriteWord w))
 
 -- so many of them
 words-in : (h : Hot) (s : Settled) (x : Secrets) (m : List ℕ) (raised : Bool) → takesIn (h .transfer) ≡ true
     → (ws l b : List ℕ) (p : ℕ) → p + length ws ≤ 255
-    → writeWordsOf aloneOf (ws ++ l) (deviceWith (hotAt h p raised) s b x) m
-    ≡ takenBehind (length ws) (writeWordsOf aloneOf l (deviceWith (hotAt h (p + length ws) raised) s (putAll b p ws) x) m)
+    → writeWordsOf hereOf (ws ++ l) (deviceWith (hotAt h p raised) s b x) m
+    ≡ takenBehind (length ws) (writeWordsOf hereOf l (deviceWith (hotAt h (p + length ws) raised) s (putAll b p ws) x) m)
 unfolding putAll
 words-in h s x m raised o [] l b p g =
     let e : p ≡ p + 0 = omega arith in
-    ap (λ (i : ℕ). writeWordsOf aloneOf l (deviceWith (hotAt h i raised) s b x) m) e
-    ∙ behind-none (writeWordsOf aloneOf l (deviceWith (hotAt h (p + 0) raised) s b x) m)
+    ap (λ (i : ℕ). writeWordsOf hereOf l (deviceWith (hotAt h i raised) s b x) m) e
+    ∙ behind-none (writeWordsOf hereOf l (deviceWith (hotAt h (p + 0) raised) s b x) m)
 words-in h s x m raised o (w ∷ ws) l b p g =
     let i : p + 1 + length ws ≡ p + suc (length ws) = omega arith in
     let c : 1 + length ws ≡ suc (length ws) = omega arith in
-    takes-first aloneOf w (ws ++ l) (deviceWith (hotAt h p raised) s b x) m _ _ _ (word-in h s b x m p raised w o (omega arith))
+    takes-first hereOf w (ws ++ l) (deviceWith (hotAt h p raised) s b x) m _ _ _ (word-in h s b x m p raised w o (omega arith))
     ∙ ap (takenBehind 1) (words-in h s x m raised o ws l (wordPut b p w) (p + 1) (omega arith))
-    ∙ taken-behind 1 (length ws) (writeWordsOf aloneOf l (deviceWith (hotAt h (p + 1 + length ws) raised) s (putAll (wordPut b p w) (p + 1) ws) x) m)
-    ∙ ap (λ (n : ℕ). takenBehind n (writeWordsOf aloneOf l (deviceWith (hotAt h (p + 1 + length ws) raised) s (putAll (wordPut b p w) (p + 1) ws) x) m)) c
-    ∙ ap (λ (n : ℕ). takenBehind (suc (length ws)) (writeWordsOf aloneOf l (deviceWith (hotAt h n raised) s (putAll (wordPut b p w) (p + 1) ws) x) m)) i
+    ∙ taken-behind 1 (length ws) (writeWordsOf hereOf l (deviceWith (hotAt h (p + 1 + length ws) raised) s (putAll (wordPut b p w) (p + 1) ws) x) m)
+    ∙ ap (λ (n : ℕ). takenBehind n (writeWordsOf hereOf l (deviceWith (hotAt h (p + 1 + length ws) raised) s (putAll (wordPut b p w) (p + 1) ws) x) m)) c
+    ∙ ap (λ (n : ℕ). takenBehind (suc (length ws)) (writeWordsOf hereOf l (deviceWith (hotAt h n raised) s (putAll (wordPut b p w) (p + 1) ws) x) m)) i
 
 -- ---- a block's last word: it leaves the same wherever the transfer stood
 
@@ -153,11 +168,21 @@ word-last h s b x m w (ReadingBuffer n) o = absurd (omega arith)
 word-last h s b x m w (WritingBuffer n) o = refl
 word-last h s b x m w (TakingPassword p) o = absurd (omega arith)
 
+takes-last : (t : Transfer) → takesTo t ≡ 256 → takesHere (placedAt t 255) ≡ true
+takes-last Idle o = absurd (omega arith)
+takes-last (Reading r) o = absurd (omega arith)
+takes-last (Writing r) o = refl
+takes-last (ReadingBuffer n) o = absurd (omega arith)
+takes-last (WritingBuffer n) o = refl
+takes-last (TakingPassword p) o = absurd (omega arith)
+
 last-step : (h : Hot) (s : Settled) (b : List ℕ) (x : Secrets) (m : List ℕ) (w : ℕ) → takesTo (h .transfer) ≡ 256
-    → aloneOf (deviceWith (hotAt h 255 (h .signals .raised)) s b x) m (WriteWord w)
+    → hereOf (deviceWith (hotAt h 255 (h .signals .raised)) s b x) m (WriteWord w)
     ≡ wordDone (deviceOf (writtenUpTo (faceWith h s (wordPut b 255 w)) 256) x) (storedUpTo (faceWith h s (wordPut b 255 w)) m 256) 0
 unfolding aloneOf ignoredOf actOf writeWordOf writtenUpTo storedUpTo
-last-step h s b x m w o = word-last h s b x m w (h .transfer) o
+last-step h s b x m w o =
+    here-step (deviceWith (hotAt h 255 (h .signals .raised)) s b x) m (WriteWord w) (takes-last (h .transfer) o)
+    ∙ word-last h s b x m w (h .transfer) o
 
 -- ---- words of a block
 
@@ -171,32 +196,32 @@ put-last (v ∷ ws) b p w =
 -- from where the transfer stands up to a place in the block
 words-within : (h : Hot) (s : Settled) (b : List ℕ) (x : Secrets) (m : List ℕ) → takesIn (h .transfer) ≡ true
     → (ws l : List ℕ) (p : ℕ) → p ≡ placeOf (h .transfer) → p + length ws ≤ 255
-    → writeWordsOf aloneOf (ws ++ l) (deviceWith h s b x) m
-    ≡ takenBehind (length ws) (writeWordsOf aloneOf l (deviceWith (hotAt h (p + length ws) (h .signals .raised)) s (putAll b p ws) x) m)
+    → writeWordsOf hereOf (ws ++ l) (deviceWith h s b x) m
+    ≡ takenBehind (length ws) (writeWordsOf hereOf l (deviceWith (hotAt h (p + length ws) (h .signals .raised)) s (putAll b p ws) x) m)
 words-within h s b x m o ws l p e g =
-    ap (λ (i : Hot). writeWordsOf aloneOf (ws ++ l) (deviceWith i s b x) m) (sym (ap (λ (i : ℕ). hotAt h i (h .signals .raised)) e ∙ hot-same h))
+    ap (λ (i : Hot). writeWordsOf hereOf (ws ++ l) (deviceWith i s b x) m) (sym (ap (λ (i : ℕ). hotAt h i (h .signals .raised)) e ∙ hot-same h))
     ∙ words-in h s x m (h .signals .raised) o ws l b p g
 
 -- what words of a block leave, which are put from place p on
 abbrev pub takenTo : Hot → Settled → List ℕ → Secrets → List ℕ → List ℕ → List ℕ → ℕ → Taken
 takenTo h s b x m ws l p =
-    takenBehind (length ws) (writeWordsOf aloneOf l (deviceOf (writtenUpTo (faceWith h s (putAll b p ws)) (p + length ws)) x) (storedUpTo (faceWith h s (putAll b p ws)) m (p + length ws)))
+    takenBehind (length ws) (writeWordsOf hereOf l (deviceOf (writtenUpTo (faceWith h s (putAll b p ws)) (p + length ws)) x) (storedUpTo (faceWith h s (putAll b p ws)) m (p + length ws)))
 
 -- and behind its last word
 words-whole : (h : Hot) (s : Settled) (b : List ℕ) (x : Secrets) (m : List ℕ) → takesIn (h .transfer) ≡ true → takesTo (h .transfer) ≡ 256
     → (ws l : List ℕ) (w p : ℕ) → p ≡ placeOf (h .transfer) → p + length ws ≡ 255
-    → writeWordsOf aloneOf (ws ++ (w ∷ l)) (deviceWith h s b x) m ≡ takenTo h s b x m (ws ++ (w ∷ [])) l p
+    → writeWordsOf hereOf (ws ++ (w ∷ l)) (deviceWith h s b x) m ≡ takenTo h s b x m (ws ++ (w ∷ [])) l p
 words-whole h s b x m o t ws l w p e g =
     let long : length (ws ++ (w ∷ [])) ≡ length ws + 1 = length-append ws (w ∷ []) in
     let behind : 256 ≡ p + length (ws ++ (w ∷ [])) = omega arith in
     let put : putAll b p (ws ++ (w ∷ [])) ≡ wordPut (putAll b p ws) 255 w = put-last ws b p w ∙ ap (λ (i : ℕ). wordPut (putAll b p ws) i w) g in
     words-within h s b x m o ws (w ∷ l) p e (omega arith)
-    ∙ ap (λ (i : ℕ). takenBehind (length ws) (writeWordsOf aloneOf (w ∷ l) (deviceWith (hotAt h i (h .signals .raised)) s (putAll b p ws) x) m)) g
-    ∙ ap (takenBehind (length ws)) (takes-first aloneOf w l (deviceWith (hotAt h 255 (h .signals .raised)) s (putAll b p ws) x) m _ _ _ (last-step h s (putAll b p ws) x m w t))
+    ∙ ap (λ (i : ℕ). takenBehind (length ws) (writeWordsOf hereOf (w ∷ l) (deviceWith (hotAt h i (h .signals .raised)) s (putAll b p ws) x) m)) g
+    ∙ ap (takenBehind (length ws)) (takes-first hereOf w l (deviceWith (hotAt h 255 (h .signals .raised)) s (putAll b p ws) x) m _ _ _ (last-step h s (putAll b p ws) x m w t))
     ∙ taken-behind (length ws) 1 _
-    ∙ ap (λ (n : ℕ). takenBehind n (writeWordsOf aloneOf l (deviceOf (writtenUpTo (faceWith h s (wordPut (putAll b p ws) 255 w)) 256) x) (storedUpTo (faceWith h s (wordPut (putAll b p ws) 255 w)) m 256))) (sym long)
-    ∙ ap (λ (c : List ℕ). takenBehind (length (ws ++ (w ∷ []))) (writeWordsOf aloneOf l (deviceOf (writtenUpTo (faceWith h s c) 256) x) (storedUpTo (faceWith h s c) m 256))) (sym put)
-    ∙ ap (λ (n : ℕ). takenBehind (length (ws ++ (w ∷ []))) (writeWordsOf aloneOf l (deviceOf (writtenUpTo (faceWith h s (putAll b p (ws ++ (w ∷ [])))) n) x) (storedUpTo (faceWith h s (putAll b p (ws ++ (w ∷ [])))) m n))) behind
+    ∙ ap (λ (n : ℕ). takenBehind n (writeWordsOf hereOf l (deviceOf (writtenUpTo (faceWith h s (wordPut (putAll b p ws) 255 w)) 256) x) (storedUpTo (faceWith h s (wordPut (putAll b p ws) 255 w)) m 256))) (sym long)
+    ∙ ap (λ (c : List ℕ). takenBehind (length (ws ++ (w ∷ []))) (writeWordsOf hereOf l (deviceOf (writtenUpTo (faceWith h s c) 256) x) (storedUpTo (faceWith h s c) m 256))) (sym put)
+    ∙ ap (λ (n : ℕ). takenBehind (length (ws ++ (w ∷ []))) (writeWordsOf hereOf l (deviceOf (writtenUpTo (faceWith h s (putAll b p (ws ++ (w ∷ [])))) n) x) (storedUpTo (faceWith h s (putAll b p (ws ++ (w ∷ [])))) m n))) behind
 
 -- a transfer whose next word is taken in here
 takes-word : (t : Transfer) → placeOf t < takesTo t → takesIn t ≡ true
@@ -217,22 +242,22 @@ takes-most (TakingPassword p) h = absurd (omega arith)
 
 -- either
 pub written-up-to : (h : Hot) (s : Settled) (b : List ℕ) (x : Secrets) (m : List ℕ) (ws l : List ℕ) (p : ℕ) → p ≡ placeOf (h .transfer)
-    → p < takesTo (h .transfer) → p + length ws ≤ takesTo (h .transfer) → writeWordsOf aloneOf (ws ++ l) (deviceWith h s b x) m ≡ takenTo h s b x m ws l p
+    → p < takesTo (h .transfer) → p + length ws ≤ takesTo (h .transfer) → writeWordsOf hereOf (ws ++ l) (deviceWith h s b x) m ≡ takenTo h s b x m ws l p
 unfolding writtenUpTo storedUpTo
 written-up-to h s b x m ws l p e i g = either-way (ltb (p + length ws) 256) within whole
   where
     o : takesIn (h .transfer) ≡ true
     o = takes-word (h .transfer) (omega arith)
 
-    within : ltb (p + length ws) 256 ≡ true → writeWordsOf aloneOf (ws ++ l) (deviceWith h s b x) m ≡ takenTo h s b x m ws l p
+    within : ltb (p + length ws) 256 ≡ true → writeWordsOf hereOf (ws ++ l) (deviceWith h s b x) m ≡ takenTo h s b x m ws l p
     within q =
         let j = ltb-true (p + length ws) 256 q in
         words-within h s b x m o ws l p e (omega arith)
-        ∙ ap (λ (y : Bool). takenBehind (length ws) (writeWordsOf aloneOf l
+        ∙ ap (λ (y : Bool). takenBehind (length ws) (writeWordsOf hereOf l
         (deviceOf (pick y (faceAt (faceWith h s (putAll b p ws)) (p + length ws)) (blockTaken (faceWith h s (putAll b p ws)) (h .transfer))) x)
         (pick y m (blockStored (faceWith h s (putAll b p ws)) m (h .transfer))))) (sym q)
 
-    whole : ltb (p + length ws) 256 ≡ false → writeWordsOf aloneOf (ws ++ l) (deviceWith h s b x) m ≡ takenTo h s b x m ws l p
+    whole : ltb (p + length ws) 256 ≡ false → writeWordsOf hereOf (ws ++ l) (deviceWith h s b x) m ≡ takenTo h s b x m ws l p
     whole q =
         let j = ltb-false (p + length ws) 256 q in
         let t : takesTo (h .transfer) ≡ 256 = takes-most (h .transfer) (omega arith) in
@@ -240,7 +265,7 @@ written-up-to h s b x m ws l p e i g = either-way (ltb (p + length ws) 256) with
         let front : length (take (length ws - 1) ws) ≡ length ws - 1 = length-take-le (length ws - 1) ws (omega arith) in
         let split : ws ≡ take (length ws - 1) ws ++ (getD ws (length ws - 1) 0 ∷ []) =
         sym (take-length ws) ∙ ap (λ (c : ℕ). take c ws) n ∙ take-suc ws (length ws - 1) 0 (omega arith) in
-        ap (λ (c : List ℕ). writeWordsOf aloneOf (c ++ l) (deviceWith h s b x) m) split
-        ∙ ap (λ (c : List ℕ). writeWordsOf aloneOf c (deviceWith h s b x) m) (append-assoc (take (length ws - 1) ws) (getD ws (length ws - 1) 0 ∷ []) l)
+        ap (λ (c : List ℕ). writeWordsOf hereOf (c ++ l) (deviceWith h s b x) m) split
+        ∙ ap (λ (c : List ℕ). writeWordsOf hereOf c (deviceWith h s b x) m) (append-assoc (take (length ws - 1) ws) (getD ws (length ws - 1) 0 ∷ []) l)
         ∙ words-whole h s b x m o t (take (length ws - 1) ws) l (getD ws (length ws - 1) 0) p e (omega arith)
         ∙ ap (λ (c : List ℕ). takenTo h s b x m c l p) (sym split)

@@ -1,17 +1,15 @@
 -- For who calls write_words: what is still to come where it stopped, and that a device in shape over its memory does the same by the host's rules.
-use mathlib.Core.Path.{_≡_, refl, sym, ap, _∙_}
+use mathlib.Core.Path.{_≡_, refl, sym, ap, subst, _∙_}
 use mathlib.Core.Bool.{Bool, true, false}
-use mathlib.Core.Logic.{⊎-elim}
 use mathlib.Core.List.{List, [], _∷_}
-use Prim.Native.Nat.{ℕ, zero, suc, _+_, _*_, _≤_, _<_}
+use Prim.Native.Nat.{ℕ, zero, suc, _+_, _*_, _/_, _≤_, _<_}
 use native.Mathlib.Omega.{arith}
 use lib.Dec.{eqb, ltb}
-use lib.ListN.{length, drop, length-drop}
+use lib.ListN.{length, getD, drop, drop-of-length-le}
 use lib.Seq.{drop-cons}
-use native.Mathlib.Numerals.{add-one}
 use borrow.Author.Tests.{eqb-true}
 use Rattle.base.specs.Choice.{pick}
-use Rattle.base.proofs.Tests.{false≢true}
+use Rattle.base.proofs.Tests.{either-way, pick-each, false≢true}
 use Rattle.judging.specs.declared.Verdict.{Verdict}
 use Rattle.judging.specs.declared.Verdict.the-variants.{EndsWell, Aborts, Erases}
 use Rattle.lock.specs.declared.Secrets.{Secrets}
@@ -21,6 +19,7 @@ use Rattle.face.specs.declared.Face.{Face}
 use Rattle.face.specs.declared.PasswordBlock.{PasswordBlock}
 use Rattle.face.specs.declared.Transfer.{Transfer}
 use Rattle.face.specs.declared.Transfer.the-variants.{Idle, Reading, Writing, ReadingBuffer, WritingBuffer, TakingPassword}
+use Rattle.face.specs.declared.Action.{Action}
 use Rattle.face.specs.declared.Action.the-variants.{ReadWord, WriteWord}
 use Rattle.fastpath.specs.Dev.{ignoredOf}
 use Rattle.transfers.specs.Words.{wordIn}
@@ -33,14 +32,13 @@ use Rattle.laws.proofs.Steps.{ready-step, ready-after}
 use Rattle.laws.proofs.Lengths.{Whole, step-whole}
 use Rattle.block.specs.Words.{wordAt}
 use Rattle.glance.specs.Glances.{takesIn}
-use Rattle.words.specs.Words.{Handed, handsNone, handsFirst, readWordsOf, Taken, takenBehind, writeWordsOf, wordsIn}
+use Rattle.words.specs.Words.{Handed, handsNone, handsFirst, readWordsOf, Taken, takesNone, takenBehind, writeWordsOf, wordsIn}
 use Rattle.words.specs.Blocks.{takesHere}
-use Rattle.words.specs.Bulk.{deviceWith, Writes}
+use Rattle.words.specs.Bulk.{deviceWith, hereOf, Writes}
 use Rattle.words.specs.declared.Passed.{Passed}
-
--- no word
-abbrev pub takesNone : Device → List ℕ → Taken
-takesNone d m = record { count = 0; device = d; sectors = m }
+use Rattle.words.proofs.Bytes.{words-length}
+use Rattle.words.proofs.AsSessions.{WritesAs, writes-session}
+use Rattle.words.proofs.BulkWrites.{taken-behind, behind-none}
 
 -- one word, or none where it is turned away
 abbrev pub takesOne : Device → List ℕ → Step → Taken
@@ -108,11 +106,42 @@ one-word w l d m e = only-one w l d m (behind-stop (d .face) (d .secrets) m w (d
 
 -- ---- all words, behind write_words
 
-words-few : (l : List ℕ) → length l < 2 → wordsIn l ≡ []
-unfolding wordsIn
-words-few [] h = refl
-words-few (x ∷ []) h = refl
-words-few (x ∷ y ∷ l) h = absurd (omega arith)
+-- a step that is done here is the device's own
+here-done : (d : Device) (m : List ℕ) (a : Action) → hereOf d m a .outcome .number ≡ 0 → hereOf d m a ≡ aloneOf d m a
+unfolding hereOf
+here-done d m a n = either-way (takesHere (d .face .hot .transfer)) (λ e. rw e) (λ e. absurd (let q = rw e at n in omega (arith, q)))
+
+-- single writes of these words are those that t has, and of the rest of them from there
+abbrev Behind : List ℕ → Device → List ℕ → Taken → Type 0
+Behind l d m t = writeWordsOf aloneOf l d m ≡ takenBehind (t .count) (writeWordsOf aloneOf (drop (t .count) l) (t .device) (t .sectors))
+
+behind-more : (w : ℕ) (l : List ℕ) (d : Device) (m : List ℕ) (s : Step) (t : Taken) → aloneOf d m (WriteWord w) ≡ s → eqb (s .outcome .number) 0 ≡ true
+    → Behind l (s .outcome .device) (s .sectors) t → Behind (w ∷ l) d m (takenBehind 1 t)
+unfolding writeWordsOf
+behind-more w l d m s t q e rest =
+    let n : suc (t .count) ≡ 1 + t .count = omega arith in
+    ap (λ (z : Step). pick (eqb (z .outcome .number) 0) (takenBehind 1 (writeWordsOf aloneOf l (z .outcome .device) (z .sectors))) (takesNone d m)) q
+    ∙ ap (λ (y : Bool). pick y (takenBehind 1 (writeWordsOf aloneOf l (s .outcome .device) (s .sectors))) (takesNone d m)) e
+    ∙ ap (takenBehind 1) rest
+    ∙ taken-behind 1 (t .count) (writeWordsOf aloneOf (drop (t .count) l) (t .device) (t .sectors))
+    ∙ ap (λ (c : ℕ). takenBehind (1 + t .count) (writeWordsOf aloneOf (drop c (w ∷ l)) (t .device) (t .sectors))) n
+
+here-then : (l : List ℕ) (d : Device) (m : List ℕ) → Behind l d m (writeWordsOf hereOf l d m)
+unfolding writeWordsOf
+here-then [] d m = refl
+here-then (w ∷ l) d m = go (here-then l (hereOf d m (WriteWord w) .outcome .device) (hereOf d m (WriteWord w) .sectors))
+  where
+    go : Behind l (hereOf d m (WriteWord w) .outcome .device) (hereOf d m (WriteWord w) .sectors) (writeWordsOf hereOf l (hereOf d m (WriteWord w) .outcome .device) (hereOf d m (WriteWord w) .sectors))
+        → Behind (w ∷ l) d m (writeWordsOf hereOf (w ∷ l) d m)
+    go rest =
+        pick-each (Behind (w ∷ l) d m) (eqb (hereOf d m (WriteWord w) .outcome .number) 0) _ _
+        (λ e. behind-more w l d m (hereOf d m (WriteWord w)) _ (sym (here-done d m (WriteWord w) (eqb-true _ _ e))) e rest)
+        (λ e. behind-none (writeWordsOf aloneOf (w ∷ l) d m))
+
+-- what write_words leaves to do: the words behind those that passed
+pub writes-behind : {h : Hot} {s : Settled} {b m bytes : List ℕ} {r : Passed} {after sectors : List ℕ} → Writes h s b m bytes r after sectors → (x : Secrets)
+    → writeWordsOf aloneOf (wordsIn bytes) (deviceWith h s b x) m ≡ takenBehind (r .words) (writeWordsOf aloneOf (drop (r .words) (wordsIn bytes)) (deviceWith (r .hot) s after x) sectors)
+writes-behind {h} {s} {b} {m} {bytes} k x = subst (Behind (wordsIn bytes) (deviceWith h s b x) m) (k .taken x) (here-then (wordsIn bytes) (deviceWith h s b x) m)
 
 -- no whole word is left: this is what single writes of all words come to
 pub writes-all : {h : Hot} {s : Settled} {b m bytes : List ℕ} {r : Passed} {after sectors : List ℕ} → Writes h s b m bytes r after sectors → length bytes < 2 * r .words + 2
@@ -120,26 +149,55 @@ pub writes-all : {h : Hot} {s : Settled} {b m bytes : List ℕ} {r : Passed} {af
 unfolding writeWordsOf
 writes-all {h} {s} {b} {m} {bytes} {r} {after} {sectors} k l x =
     let e : r .words + 0 ≡ r .words = omega arith in
-    k .taken x
-    ∙ ap (λ (ws : List ℕ). takenBehind (r .words) (writeWordsOf aloneOf ws (deviceWith (r .hot) s after x) sectors))
-    (words-few (drop (2 * r .words) bytes) (simp length-drop (omega arith)))
+    let n : length (wordsIn bytes) ≡ length bytes / 2 = words-length bytes in
+    let none : length (wordsIn bytes) ≤ r .words = omega (arith, n, l) in
+    writes-behind k x
+    ∙ ap (λ (ws : List ℕ). takenBehind (r .words) (writeWordsOf aloneOf ws (deviceWith (r .hot) s after x) sectors)) (drop-of-length-le (wordsIn bytes) none)
     ∙ ap (λ (n : ℕ). record { count = n; device = deviceWith (r .hot) s after x; sectors = sectors }) e
 
-words-next : (bytes : List ℕ) (k : ℕ) → 2 * k + 2 ≤ length bytes → wordsIn (drop (2 * k) bytes) ≡ wordAt bytes k ∷ wordsIn (drop (2 * k + 2) bytes)
+-- a word that is taken in here is done
+word-taken : (f : Face) (x : Secrets) (m : List ℕ) (w : ℕ) (t : Transfer) → takesHere t ≡ true → stepAs (writeWordAs f x m w t) .outcome .number ≡ 0
+unfolding passwordWord
+word-taken f x m w Idle e = absurd (false≢true e)
+word-taken f x m w (Reading r) e = absurd (false≢true e)
+word-taken f x m w (Writing r) e = refl
+word-taken f x m w (ReadingBuffer n) e = absurd (false≢true e)
+word-taken f x m w (WritingBuffer n) e = refl
+word-taken f x m w (TakingPassword b) e = rw e
+
+-- where words are left, the next is not taken in here
+stopped : (l : List ℕ) (d : Device) (m : List ℕ) (t : Taken) → writeWordsOf hereOf l d m ≡ t → t .count < length l → takesHere (t .device .face .hot .transfer) ≡ false
+unfolding hereOf aloneOf ignoredOf actOf writeWordOf
+stopped l d m t e less = either-way (takesHere (t .device .face .hot .transfer)) (λ y. absurd (turned-away less (done y))) (λ y. y)
+  where
+    turned-away : t .count < length l → hereOf (t .device) (t .sectors) (WriteWord (getD l (t .count) 0)) .outcome .number ≡ 0 → ⊥
+    turned-away = subst (WritesAs hereOf l d m) e (writes-session hereOf l d m) .next
+
+    done : takesHere (t .device .face .hot .transfer) ≡ true → hereOf (t .device) (t .sectors) (WriteWord (getD l (t .count) 0)) .outcome .number ≡ 0
+    done y = rw y (word-taken (t .device .face) (t .device .secrets) (t .sectors) (getD l (t .count) 0) (t .device .face .hot .transfer) y)
+
+word-of : (bytes : List ℕ) (k : ℕ) → 2 * k + 2 ≤ length bytes → getD (wordsIn bytes) k 0 ≡ wordAt bytes k
 unfolding wordsIn wordAt
-words-next bytes k h =
-    let e : suc (suc (2 * k)) ≡ 2 * k + 2 = omega arith in
-    rw (drop-cons bytes (2 * k) 0 (omega arith), drop-cons bytes (suc (2 * k)) 0 (omega arith), e, add-one (2 * k))
+word-of [] k h = absurd (omega arith)
+word-of (y ∷ []) k h = absurd (let q : 2 * k + 2 ≤ 1 = h in omega arith)
+word-of (y ∷ z ∷ l) zero h = refl
+word-of (y ∷ z ∷ l) (suc k) h =
+    let low : 2 * suc k ≡ suc (suc (2 * k)) = omega arith in
+    let high : suc (suc (2 * k)) + 1 ≡ suc (suc (2 * k + 1)) = omega arith in
+    rw (low, high) (word-of l k (omega arith))
 
 -- a whole word is left: single writes of all words come to what that one alone does
 pub writes-next : {h : Hot} {s : Settled} {b m bytes : List ℕ} {r : Passed} {after sectors : List ℕ} → Writes h s b m bytes r after sectors → 2 * r .words + 2 ≤ length bytes
     → (x : Secrets) → writeWordsOf aloneOf (wordsIn bytes) (deviceWith h s b x) m
     ≡ takenBehind (r .words) (takesOne (deviceWith (r .hot) s after x) sectors (aloneOf (deviceWith (r .hot) s after x) sectors (WriteWord (wordAt bytes (r .words)))))
 writes-next {h} {s} {b} {m} {bytes} {r} {after} {sectors} k l x =
-    k .taken x
-    ∙ ap (λ (ws : List ℕ). takenBehind (r .words) (writeWordsOf aloneOf ws (deviceWith (r .hot) s after x) sectors)) (words-next bytes (r .words) l)
+    let n : length (wordsIn bytes) ≡ length bytes / 2 = words-length bytes in
+    let less : r .words < length (wordsIn bytes) = omega (arith, n, l) in
+    writes-behind k x
+    ∙ ap (λ (ws : List ℕ). takenBehind (r .words) (writeWordsOf aloneOf ws (deviceWith (r .hot) s after x) sectors)) (drop-cons (wordsIn bytes) (r .words) 0 less)
+    ∙ ap (λ (w : ℕ). takenBehind (r .words) (writeWordsOf aloneOf (w ∷ drop (suc (r .words)) (wordsIn bytes)) (deviceWith (r .hot) s after x) sectors)) (word-of bytes (r .words) l)
     ∙ ap (takenBehind (r .words))
-    (one-word (wordAt bytes (r .words)) (wordsIn (drop (2 * r .words + 2) bytes)) (deviceWith (r .hot) s after x) sectors (⊎-elim (λ e. absurd (omega arith)) (λ e. e) (k .stopped)))
+    (one-word (wordAt bytes (r .words)) (drop (suc (r .words)) (wordsIn bytes)) (deviceWith (r .hot) s after x) sectors (stopped (wordsIn bytes) (deviceWith h s b x) m _ (k .taken x) less))
 
 -- ---- by the host's rules
 

@@ -11,8 +11,7 @@ use Rattle.base.proofs.Tests.{either-way}
 use Rattle.lock.specs.declared.Secrets.{Secrets}
 use Rattle.settled.specs.declared.Settled.{Settled}
 use Rattle.face.specs.declared.Hot.{Hot}
-use Rattle.device.specs.Alone.{aloneOf}
-use Rattle.words.specs.Words.{Handed, Taken, writeWordsOf, wordsIn}
+use Rattle.words.specs.Words.{Handed, Taken, wordsIn}
 use Rattle.words.specs.Bulk.{deviceWith, Reads, Writes}
 use Rattle.words.specs.declared.Passed.{Passed}
 use Rattle.words.proofs.Bytes.{front-length}
@@ -95,11 +94,15 @@ reads-exact {s = s} {m = m} {out = out} {r = r} {r′ = r′} {after = after} {a
 
 -- ---- writes
 
--- as many words of one call of write_words lead to one place
+-- two results of one call of write_words are the same
 pub writes-exact : {h : Hot} {s : Settled} {b m bytes : List ℕ} {r r′ : Passed} {after after′ sectors sectors′ : List ℕ}
-    → Writes h s b m bytes r after sectors → Writes h s b m bytes r′ after′ sectors′ → r .words ≡ r′ .words
-    → (r .hot ≡ r′ .hot) × (after ≡ after′) × (sectors ≡ sectors′)
-writes-exact {h} {s} {b} {m} {bytes} {r} {r′} {after} {after′} {sectors} {sectors′} k k′ e =
+    → Writes h s b m bytes r after sectors → Writes h s b m bytes r′ after′ sectors′
+    → (r .words ≡ r′ .words) × (r .hot ≡ r′ .hot) × (after ≡ after′) × (sectors ≡ sectors′)
+writes-exact k k′ =
     let x : Secrets = record { user = []; master = [] } in
-    let both = sym (k .passed x) ∙ ap (λ (n : ℕ). writeWordsOf aloneOf (wordsIn (take (2 * n) bytes)) (deviceWith h s b x) m) e ∙ k′ .passed x in
-    (ap (λ (t : Taken). t .device .face .hot) both, ap (λ (t : Taken). t .device .face .buffer) both, ap (λ (t : Taken). t .sectors) both)
+    let both = sym (k .taken x) ∙ k′ .taken x in (
+      ap (λ (t : Taken). t .count) both,
+      ap (λ (t : Taken). t .device .face .hot) both,
+      ap (λ (t : Taken). t .device .face .buffer) both,
+      ap (λ (t : Taken). t .sectors) both,
+    )

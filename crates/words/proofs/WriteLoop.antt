@@ -1,8 +1,7 @@
 -- What the loop of write_words keeps: single writes of the words so far lead to where it stands.
 use mathlib.Core.Path.{_≡_, refl, sym, ap, _∙_}
 use mathlib.Core.Bool.{false}
-use mathlib.Core.Logic.{_⊎_, inl, inr}
-use mathlib.Core.List.{List, [], _++_, append-nil}
+use mathlib.Core.List.{List, [], _∷_, _++_, append-nil}
 use Prim.Native.Nat.{ℕ, _+_, _*_, _/_, _≤_, _<_}
 use native.Mathlib.Omega.{arith}
 use lib.ListN.{length, take, drop, length-drop, take-append-drop}
@@ -13,17 +12,18 @@ use Rattle.settled.specs.declared.Settled.{Settled}
 use Rattle.face.specs.declared.Hot.{Hot}
 use Rattle.face.specs.declared.Transfer.{Transfer}
 use Rattle.face.specs.declared.Transfer.the-variants.{Idle, Reading, Writing, ReadingBuffer, WritingBuffer, TakingPassword}
-use Rattle.device.specs.Alone.{deviceOf, aloneOf}
+use Rattle.device.specs.Alone.{deviceOf}
+use Rattle.device.specs.declared.Device.{Device}
 use Rattle.laws.proofs.ReadBack.{putAll}
 use Rattle.glance.specs.Places.{placeOf}
-use Rattle.words.specs.Words.{Taken, takenBehind, writeWordsOf, wordsIn}
+use Rattle.words.specs.Words.{Taken, takesNone, takenBehind, writeWordsOf, wordsIn}
 use Rattle.words.specs.Blocks.{faceWith, takesTo, takesHere, writtenUpTo, storedUpTo, Moved}
-use Rattle.words.specs.Bulk.{deviceWith, Writes}
+use Rattle.words.specs.Bulk.{deviceWith, hereOf, Writes}
 use Rattle.words.proofs.Bytes.{words-append, front-length, put-pasted}
 use Rattle.words.proofs.BulkWrites.{writes-append, written-up-to}
 
 pub record Taking (h₀ : Hot) (s : Settled) (b₀ m₀ bytes : List ℕ) (h : Hot) (b m : List ℕ) (words : ℕ) : Type 0 where
-  pub passed : (x : Secrets) → writeWordsOf aloneOf (wordsIn (take (2 * words) bytes)) (deviceWith h₀ s b₀ x) m₀
+  pub passed : (x : Secrets) → writeWordsOf hereOf (wordsIn (take (2 * words) bytes)) (deviceWith h₀ s b₀ x) m₀
       ≡ record { count = words; device = deviceWith h s b x; sectors = m }
   pub below : 2 * words ≤ length bytes
   pub long : length m ≡ length m₀
@@ -34,12 +34,12 @@ taking-none h s b m bytes = record { passed = λ x. refl; below = omega arith; l
 
 -- single writes of more words: of those behind the words so far, from where it stands
 passed-then : {h₀ : Hot} {s : Settled} {b₀ m₀ bytes : List ℕ} {h : Hot} {b m : List ℕ} {words : ℕ} → Taking h₀ s b₀ m₀ bytes h b m words → (l : List ℕ) (x : Secrets)
-    → writeWordsOf aloneOf (wordsIn (take (2 * words) bytes) ++ l) (deviceWith h₀ s b₀ x) m₀ ≡ takenBehind words (writeWordsOf aloneOf l (deviceWith h s b x) m)
+    → writeWordsOf hereOf (wordsIn (take (2 * words) bytes) ++ l) (deviceWith h₀ s b₀ x) m₀ ≡ takenBehind words (writeWordsOf hereOf l (deviceWith h s b x) m)
 passed-then {h₀} {s} {b₀} {m₀} {bytes} {h} {b} {m} {words} k l x =
     let n = front-length bytes words (k .below) in
-    writes-append aloneOf (wordsIn (take (2 * words) bytes)) l (deviceWith h₀ s b₀ x) m₀ (ap (λ (t : Taken). t .count) (k .passed x) ∙ sym n)
-    ∙ ap (λ (t : Taken). takenBehind (length (wordsIn (take (2 * words) bytes))) (writeWordsOf aloneOf l (t .device) (t .sectors))) (k .passed x)
-    ∙ ap (λ (i : ℕ). takenBehind i (writeWordsOf aloneOf l (deviceWith h s b x) m)) n
+    writes-append hereOf (wordsIn (take (2 * words) bytes)) l (deviceWith h₀ s b₀ x) m₀ (ap (λ (t : Taken). t .count) (k .passed x) ∙ sym n)
+    ∙ ap (λ (t : Taken). takenBehind (length (wordsIn (take (2 * words) bytes))) (writeWordsOf hereOf l (t .device) (t .sectors))) (k .passed x)
+    ∙ ap (λ (i : ℕ). takenBehind i (writeWordsOf hereOf l (deviceWith h s b x) m)) n
 
 -- bytes in two parts, the first of whole words
 words-split : (bytes : List ℕ) (words : ℕ) → 2 * words ≤ length bytes → wordsIn bytes ≡ wordsIn (take (2 * words) bytes) ++ wordsIn (drop (2 * words) bytes)
@@ -68,11 +68,11 @@ turn-taken : (h : Hot) (s : Settled) (b : List ℕ) (x : Secrets) (m ws : List �
     → (c : ℕ) → length ws ≡ c → p + c ≤ takesTo (h .transfer) → (b′ : List ℕ) → putAll b p ws ≡ b′
     → (h′ : Hot) → faceWith h′ s b′ ≡ writtenUpTo (faceWith h s b′) (p + c)
     → (m′ : List ℕ) → m′ ≡ storedUpTo (faceWith h s b′) m (p + c)
-    → writeWordsOf aloneOf ws (deviceWith h s b x) m ≡ record { count = c; device = deviceWith h′ s b′ x; sectors = m′ }
+    → writeWordsOf hereOf ws (deviceWith h s b x) m ≡ record { count = c; device = deviceWith h′ s b′ x; sectors = m′ }
 unfolding writeWordsOf
 turn-taken h s b x m ws p e i c n u b′ v h′ f m′ g =
     let z : c + 0 ≡ c = omega arith in
-    ap (λ (l : List ℕ). writeWordsOf aloneOf l (deviceWith h s b x) m) (sym (append-nil ws))
+    ap (λ (l : List ℕ). writeWordsOf hereOf l (deviceWith h s b x) m) (sym (append-nil ws))
     ∙ written-up-to h s b x m ws [] p e i (omega arith)
     ∙ ap (λ (k : ℕ). takenBehind k (record { count = 0; device = deviceOf (writtenUpTo (faceWith h s (putAll b p ws)) (p + k)) x; sectors = storedUpTo (faceWith h s (putAll b p ws)) m (p + k) })) n
     ∙ ap (λ (q : List ℕ). takenBehind c (record { count = 0; device = deviceOf (writtenUpTo (faceWith h s q) (p + c)) x; sectors = storedUpTo (faceWith h s q) m (p + c) })) v
@@ -89,13 +89,24 @@ taking-more {h₀} {s} {b₀} {m₀} {bytes} {h} {b} {m} {words} k whole p e l c
     let left : 2 * c ≤ length (drop (2 * words) bytes) = simp length-drop (omega arith) in
     record {
       passed = λ x.
-          ap (λ (ws : List ℕ). writeWordsOf aloneOf ws (deviceWith h₀ s b₀ x) m₀) (words-more bytes words c (k .below))
+          ap (λ (ws : List ℕ). writeWordsOf hereOf ws (deviceWith h₀ s b₀ x) m₀) (words-more bytes words c (k .below))
           ∙ passed-then k (wordsIn (take (2 * c) (drop (2 * words) bytes))) x
           ∙ ap (takenBehind words) (turn-taken h s b x m (wordsIn (take (2 * c) (drop (2 * words) bytes))) p e l c
           (front-length (drop (2 * words) bytes) c left) u b′ (put-moved bytes b b′ p words c source (omega arith) v) h′ f m′ g);
       below = omega arith;
       long = n ∙ k .long;
     }
+
+here-none : (l : List ℕ) (d : Device) (m : List ℕ) → takesHere (d .face .hot .transfer) ≡ false → writeWordsOf hereOf l d m ≡ takesNone d m
+unfolding writeWordsOf hereOf
+here-none [] d m e = refl
+here-none (w ∷ l) d m e = rw e
+
+words-few : (l : List ℕ) → length l < 2 → wordsIn l ≡ []
+unfolding wordsIn
+words-few [] h = refl
+words-few (x ∷ []) h = refl
+words-few (x ∷ y ∷ l) h = absurd (omega arith)
 
 -- a transfer whose next word is not taken in here
 takes-none : (t : Transfer) → takesTo t ≤ placeOf t → placeOf t < 256 → takesHere t ≡ false
@@ -106,26 +117,31 @@ takes-none (ReadingBuffer n) h l = refl
 takes-none (WritingBuffer n) h l = absurd (omega arith)
 takes-none (TakingPassword p) h l = le-ltb (p .word) 255 h
 
+-- the rest of the bytes is taken no word of
 taking-ends : {h₀ : Hot} {s : Settled} {b₀ m₀ bytes : List ℕ} {h : Hot} {b m : List ℕ} {words : ℕ} → Taking h₀ s b₀ m₀ bytes h b m words
-    → (length bytes < 2 * words + 2) ⊎ (takesHere (h .transfer) ≡ false) → Writes h₀ s b₀ m₀ bytes (record { hot = h; words = words }) b m
-taking-ends {h₀} {s} {b₀} {m₀} {bytes} {h} {b} {m} {words} k e =
+    → ((x : Secrets) → writeWordsOf hereOf (wordsIn (drop (2 * words) bytes)) (deviceWith h s b x) m ≡ takesNone (deviceWith h s b x) m)
+    → Writes h₀ s b₀ m₀ bytes (record { hot = h; words = words }) b m
+taking-ends {h₀} {s} {b₀} {m₀} {bytes} {h} {b} {m} {words} k none =
+    let e : words + 0 ≡ words = omega arith in
     record {
-      passed = k .passed;
       taken = λ x.
-          ap (λ (ws : List ℕ). writeWordsOf aloneOf ws (deviceWith h₀ s b₀ x) m₀) (words-split bytes words (k .below))
-          ∙ passed-then k (wordsIn (drop (2 * words) bytes)) x;
-      below = k .below;
+          ap (λ (ws : List ℕ). writeWordsOf hereOf ws (deviceWith h₀ s b₀ x) m₀) (words-split bytes words (k .below))
+          ∙ passed-then k (wordsIn (drop (2 * words) bytes)) x
+          ∙ ap (takenBehind words) (none x)
+          ∙ ap (λ (n : ℕ). record { count = n; device = deviceWith h s b x; sectors = m }) e;
       long = k .long;
-      stopped = e;
     }
 
--- the next word is turned away, or judged
+-- the next word is not taken in here
 pub taking-refused : {h₀ : Hot} {s : Settled} {b₀ m₀ bytes : List ℕ} {h : Hot} {b m : List ℕ} {words : ℕ} → Taking h₀ s b₀ m₀ bytes h b m words
     → (p : ℕ) → p ≡ placeOf (h .transfer) → p < 256 → (end : ℕ) → end ≡ takesTo (h .transfer) → end ≤ p
     → Writes h₀ s b₀ m₀ bytes (record { hot = h; words = words }) b m
-taking-refused {h = h} k p e l end f g = taking-ends k (inr (takes-none (h .transfer) (omega arith) (omega arith)))
+taking-refused {s = s} {bytes = bytes} {h = h} {b = b} {m = m} {words = words} k p e l end f g =
+    taking-ends k (λ x. here-none (wordsIn (drop (2 * words) bytes)) (deviceWith h s b x) m (takes-none (h .transfer) (omega arith) (omega arith)))
 
 -- all words have passed
 pub taking-done : {h₀ : Hot} {s : Settled} {b₀ m₀ bytes : List ℕ} {h : Hot} {b m : List ℕ} {words : ℕ} → Taking h₀ s b₀ m₀ bytes h b m words
     → length bytes / 2 ≤ words → Writes h₀ s b₀ m₀ bytes (record { hot = h; words = words }) b m
-taking-done k l = taking-ends k (inl (omega arith))
+unfolding writeWordsOf
+taking-done {s = s} {bytes = bytes} {h = h} {b = b} {m = m} {words = words} k l =
+    taking-ends k (λ x. ap (λ (ws : List ℕ). writeWordsOf hereOf ws (deviceWith h s b x) m) (words-few (drop (2 * words) bytes) (simp length-drop (omega arith))))

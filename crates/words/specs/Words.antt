@@ -36,17 +36,21 @@ pub record Taken : Type 0 where
   pub device : Device
   pub sectors : List ℕ
 
+-- no word
+abbrev pub takesNone : Device → List ℕ → Taken
+takesNone d m = record { count = 0; device = d; sectors = m }
+
 -- k words more had passed before
 abbrev pub takenBehind : ℕ → Taken → Taken
 takenBehind k t = record { count = k + t .count; device = t .device; sectors = t .sectors }
 
 -- these words are written, up to the first that is turned away
 unfoldable pub writeWordsOf : Rules → List ℕ → Device → List ℕ → Taken
-writeWordsOf r [] d m = record { count = 0; device = d; sectors = m }
+writeWordsOf r [] d m = takesNone d m
 writeWordsOf r (w ∷ l) d m =
     pick (eqb (r d m (WriteWord w) .outcome .number) 0)
     (takenBehind 1 (writeWordsOf r l (r d m (WriteWord w) .outcome .device) (r d m (WriteWord w) .sectors)))
-    (record { count = 0; device = d; sectors = m })
+    (takesNone d m)
 
 -- bytes as words, low byte first; a last byte alone is none
 unfoldable pub wordsIn : List ℕ → List ℕ
