@@ -1,15 +1,11 @@
 -- No more words pass in a call than a transfer has, which are at most 65,536: their number fits the reply.
 use Prim.Native.Nat.{ℕ, zero, suc, _≤_, _<_}
-use mathlib.Core.Path.{_≡_, refl}
 use mathlib.Core.List.{List, [], _∷_}
 use native.Mathlib.Omega.{arith}
 use borrow.Author.Tests.{eqb-true}
 use lib.Dec.{eqb}
 use lib.ListN.{length, getD}
 use Rattle.base.proofs.Tests.{pick-both, pick-each}
-use Rattle.face.specs.Reads.{numberOf}
-use Rattle.face.specs.declared.Answer.{Answer}
-use Rattle.face.specs.declared.Answer.the-variants.{Done, NoRegister, OutOfShape, WrongLength, NoTransfer, SetupRefused}
 use Rattle.face.specs.declared.Action.the-variants.{ReadWord, WriteWord}
 use Rattle.fastpath.specs.Dev.{ignoredOf}
 use Rattle.device.specs.Alone.{aloneOf}
@@ -17,15 +13,8 @@ use Rattle.device.specs.declared.Device.{Device}
 use Rattle.laws.proofs.Endings.{wordsLeft, Bytes, most-words, act-fewer}
 use Rattle.laws.proofs.Endings.Word.{Read, Written}
 use Rattle.layout.specs.Stored.{transferStored}
+use Rattle.lent.proofs.Lending.{number-done}
 use Rattle.words.specs.Words.{Handed, readWordsOf, Taken, writeWordsOf}
-
-number-done : (a : Answer) → numberOf a ≡ 0 → a ≡ Done
-number-done Done e = refl
-number-done NoRegister e = absurd (omega arith)
-number-done OutOfShape e = absurd (omega arith)
-number-done WrongLength e = absurd (omega arith)
-number-done NoTransfer e = absurd (omega arith)
-number-done SetupRefused e = absurd (omega arith)
 
 handed-left : (n : ℕ) (d : Device) (m : List ℕ) → Bytes (d .face .hot .transfer) → length (readWordsOf aloneOf n d m .words) ≤ wordsLeft (d .face .hot .transfer)
 unfolding readWordsOf aloneOf ignoredOf

@@ -1,6 +1,6 @@
 // Data words in bulk over a device as lent bytes.
 ghost use mathlib.Core.Path.{_≡_};
-ghost use Prim.Native.Nat.{_+_, _*_, _/_, _≤_};
+ghost use Prim.Native.Nat.{_/_, _≤_};
 ghost use lib.ListN.{length};
 ghost use Rattle.transfers.specs.Sectors.{Memory};
 ghost use Rattle.lent.specs.Lent.{Admitted, GivesBack};
@@ -30,7 +30,12 @@ fn counted(passed: usize, wanted: usize) -> Reply
 }
 
 // Words are read from a device in shape over its memory.
-fn read_admitted(state: &mut [u8], buffer: &mut [u8; 512], sectors: &[u8], out: &mut [u8]) -> Reply
+pub fn read_admitted(
+    state: &mut [u8],
+    buffer: &mut [u8; 512],
+    sectors: &[u8],
+    out: &mut [u8],
+) -> Reply
     requires { ⌜ Admitted (now state) (now buffer) (now sectors) ⌝ }
     ensures { λ r. ⌜ ReadsLent (readsAdmitted (now (state .entry)) (now (buffer .entry)) (now (sectors .entry)) (length (now (out .entry)) / 2)) (wordsAdmitted (now (state .entry)) (now (buffer .entry)) (now (sectors .entry)) (length (now (out .entry)) / 2)) (now (out .entry)) r (now (state .exit)) (now (buffer .exit)) (now (sectors .entry)) (now (out .exit)) ⌝ }
 {
@@ -47,14 +52,10 @@ pub fn read_words(state: &mut [u8], buffer: &mut [u8; 512], sectors: &[u8], out:
     ensures { λ r. ⌜ ReadsLent (readLent (now (state .entry)) (now (buffer .entry)) (now (sectors .entry)) (length (now (out .entry)) / 2)) (wordsLent (now (state .entry)) (now (buffer .entry)) (now (sectors .entry)) (length (now (out .entry)) / 2)) (now (out .entry)) r (now (state .exit)) (now (buffer .exit)) (now (sectors .entry)) (now (out .exit)) ⌝ }
 {
     let answer = lent::admission(state, sectors);
-    match answer {
-        Answer::Done => read_admitted(state, buffer, sectors, out),
-        Answer::NoRegister => lent::refused(answer),
-        Answer::OutOfShape => lent::refused(answer),
-        Answer::WrongLength => lent::refused(answer),
-        Answer::NoTransfer => lent::refused(answer),
-        Answer::SetupRefused => lent::refused(answer),
+    if answer.number() == 0 {
+        return read_admitted(state, buffer, sectors, out);
     }
+    lent::refused(answer)
 }
 
 // A word that takes the whole device, whose hot part is held apart: the answer's number.
@@ -85,14 +86,8 @@ fn last_word(
     number
 }
 
-fn word_of(low: u8, high: u8) -> u16
-    ensures { λ r. ⌜ r ≡ low + 256 * high ⌝ }
-{
-    (low as u16) + 256 * (high as u16)
-}
-
 // Words are written to a device in shape over its memory.
-fn write_admitted(
+pub fn write_admitted(
     state: &mut [u8],
     buffer: &mut [u8; 512],
     sectors: &mut [u8],
@@ -108,7 +103,7 @@ fn write_admitted(
     let count = passed.words;
     let far = passed.hot;
     if count < wanted {
-        let w = word_of(bytes[2 * count], bytes[2 * count + 1]);
+        let w = layout::pair(bytes[2 * count], bytes[2 * count + 1]);
         let number = last_word(state, buffer, far, settled, w, sectors);
         if number == 0 {
             return counted(count + 1, wanted);
@@ -129,12 +124,8 @@ pub fn write_words(
     ensures { λ r. ⌜ GivesBack (writeLent (now (state .entry)) (now (buffer .entry)) (now (sectors .entry)) (wordsIn (now (bytes .entry)))) r (now (state .exit)) (now (buffer .exit)) (now (sectors .exit)) ⌝ }
 {
     let answer = lent::admission(state, sectors);
-    match answer {
-        Answer::Done => write_admitted(state, buffer, sectors, bytes),
-        Answer::NoRegister => lent::refused(answer),
-        Answer::OutOfShape => lent::refused(answer),
-        Answer::WrongLength => lent::refused(answer),
-        Answer::NoTransfer => lent::refused(answer),
-        Answer::SetupRefused => lent::refused(answer),
+    if answer.number() == 0 {
+        return write_admitted(state, buffer, sectors, bytes);
     }
+    lent::refused(answer)
 }

@@ -121,7 +121,7 @@ pub fn hot_at(state: &[u8]) -> Hot
 }
 
 // Two bytes, low one first.
-fn pair(low: u8, high: u8) -> u16
+pub fn pair(low: u8, high: u8) -> u16
     ensures { λ r. ⌜ r ≡ low + 256 * high ⌝ }
 {
     (low as u16) + 256 * (high as u16)

@@ -1,4 +1,4 @@
--- A call over lent bytes is the device's own: how it is let in, what the fast path and the long way leave, what a refusal leaves.
+-- A call over lent bytes is the device's own: how it is let in, what the long way and a new hot part leave, what a refusal leaves.
 use Prim.Native.Nat.{ℕ, _+_, _*_, _≤_, _<_}
 use mathlib.Core.Bool.{Bool, true, false}
 use mathlib.Core.Path.{_≡_, refl, sym, ap, _∙_}
@@ -13,17 +13,13 @@ use Rattle.geometry.specs.Geometry.{capacityOf}
 use Rattle.settled.specs.declared.Settled.{Settled}
 use Rattle.face.specs.Reads.{numberOf, valueOf}
 use Rattle.face.specs.declared.Hot.{Hot}
-use Rattle.face.specs.declared.Seen.{Seen}
 use Rattle.face.specs.declared.Action.{Action}
 use Rattle.face.specs.declared.Answer.{Answer}
 use Rattle.face.specs.declared.Answer.the-variants.{Done, NoRegister, OutOfShape, WrongLength, NoTransfer, SetupRefused}
-use Rattle.face.specs.declared.Quick.the-variants.{Settles}
-use Rattle.fastpath.specs.Dev.{quickAlone, quickAloneBuffer}
 use Rattle.device.specs.Alone.{shown, aloneOf}
 use Rattle.device.specs.Host.{partsShaped, shapedOf, memoryLength, stepOf}
 use Rattle.device.specs.declared.Device.{Device}
 use Rattle.device.specs.declared.Outcome.{Outcome}
-use Rattle.device.proofs.FastStep.{quick-settles}
 use Rattle.laws.proofs.Steps.{ready-step}
 use Rattle.layout.specs.Stored.{hotStored, settledStored, secretsStored, geometryStored, deviceStored, formedOf}
 use Rattle.layout.specs.Bytes.{hotBytes, restBytes, stateOf}
@@ -50,6 +46,22 @@ isRefusal OutOfShape = true
 isRefusal WrongLength = true
 isRefusal NoTransfer = true
 isRefusal SetupRefused = true
+
+pub number-done : (a : Answer) → numberOf a ≡ 0 → a ≡ Done
+number-done Done e = refl
+number-done NoRegister e = absurd (omega arith)
+number-done OutOfShape e = absurd (omega arith)
+number-done WrongLength e = absurd (omega arith)
+number-done NoTransfer e = absurd (omega arith)
+number-done SetupRefused e = absurd (omega arith)
+
+pub number-refuses : (a : Answer) → (numberOf a ≡ 0 → ⊥) → isRefusal a ≡ true
+number-refuses Done e = absurd (e refl)
+number-refuses NoRegister e = refl
+number-refuses OutOfShape e = refl
+number-refuses WrongLength e = refl
+number-refuses NoTransfer e = refl
+number-refuses SetupRefused e = refl
 
 -- the shape test, over the parts as they were read
 parts-same : (b : List ℕ) (s : Settled) (h : Hot) (v : Bool) → s ≡ settledStored b → h ≡ hotStored b → partsShaped s h ≡ v
@@ -86,12 +98,9 @@ admitted b x m e =
     (λ f. either-way (partsShaped (settledStored b) (hotStored b))
     (λ s. either-way (eqb (length m) (memoryLength (deviceStored b x)))
     (λ l. record { formed = f; ready = record { shaped = s; long = eqb-true _ _ l } })
-    (λ l. absurd (done-only (sym (ap isRefusal (rw (f, s, l) at e))))))
-    (λ s. absurd (done-only (sym (ap isRefusal (rw (f, s) at e))))))
-    (λ f. absurd (done-only (sym (ap isRefusal (rw f at e)))))
-  where
-    done-only : false ≡ true → ⊥
-    done-only q = false≢true q
+    (λ l. absurd (false≢true (sym (ap isRefusal (rw (f, s, l) at e))))))
+    (λ s. absurd (false≢true (sym (ap isRefusal (rw (f, s) at e))))))
+    (λ f. absurd (false≢true (sym (ap isRefusal (rw f at e)))))
 
 -- let in, the call is the device's action
 pub lent-ready : (b x m : List ℕ) (a : Action) → Admitted b x m → lentStep b x m a ≡ lentOf (aloneOf (deviceStored b x) m a)
@@ -133,17 +142,6 @@ hot-put b h f k =
     sets-eq (hotBytes h) b 0 w
     ∙ ap (λ (n : ℕ). hotBytes h ++ drop n b) e
     ∙ ap (λ (s : List ℕ). hotBytes h ++ s) (sym (rest-back b (formed-clauses b f) (k .geometry) (k .translation)))
-
--- the fast path: the hot part goes back, the buffer stands where it is
-pub settle-gives : (b x m : List ℕ) (a : Action) (s : Seen) (h : Hot) (r : Reply) (b' x' : List ℕ) → Admitted b x m → LowBytes b
-    → h ≡ hotStored b → quickAlone h x a ≡ Settles s → x' ≡ quickAloneBuffer h x a
-    → r ≡ hostReply (numberOf (s .answer)) (valueOf (s .answer) (s .value)) → b' ≡ sets b 0 (hotBytes (s .hot))
-    → GivesBack (lentOf (aloneOf (deviceStored b x) m a)) r b' x' m
-settle-gives b x m a s h r b' x' k low eh q ex er eb =
-    let q' : quickAlone (hotStored b) x a ≡ Settles s = rw eh at q in
-    let x'' : x' ≡ quickAloneBuffer (hotStored b) x a = rw eh at ex in
-    rw (quick-settles (deviceStored b x) m a x' s q' x'')
-    (record { reply = er; state = eb ∙ hot-put b (s .hot) (k .formed) low; buffer = refl; sectors = refl })
 
 -- the long way: all of it goes back
 pub act-gives : (d e : Device) (m : List ℕ) (a : Action) (o : Outcome) (r : Reply) (b x m' : List ℕ) → e ≡ d

@@ -1,18 +1,13 @@
-// The host's calls over a device as lent bytes: setup, and any action, with every refusal.
+// What calls over a device as lent bytes have in common: the reply, how they are let in, the long way of an action; and setup.
 ghost use mathlib.Core.Path.{_≡_};
-ghost use lib.ListN.{length};
-ghost use lib.Seq.{sets};
-ghost use Rattle.face.specs.Reads.{numberOf, valueOf};
+ghost use Rattle.face.specs.Reads.{numberOf};
 ghost use Rattle.device.specs.Alone.{aloneOf};
 ghost use Rattle.layout.specs.Stored.{deviceStored};
-ghost use Rattle.layout.specs.Bytes.{hotBytes};
-ghost use Rattle.lent.specs.Lent.{hostReply, Admitted, admissionOf, lentOf, lentStep, GivesBack};
+ghost use Rattle.lent.specs.Lent.{hostReply, Admitted, admissionOf, lentOf, GivesBack};
 ghost use Rattle.lent.specs.Setup.{zeroLent, lentSetup, Sets};
 use device::Device;
 use face::Action;
 use face::Answer;
-use face::Quick;
-use face::Seen;
 
 // The answer's number, and its value.
 #[repr(C)]
@@ -66,45 +61,6 @@ pub fn act(state: &mut [u8], buffer: &mut [u8; 512], action: Action, sectors: &m
     let value = outcome.value as u32;
     layout::put_device(state, buffer, outcome.device);
     answered(number, value)
-}
-
-// What the fast path settled: only the hot part goes back.
-fn settle(state: &mut [u8], seen: Seen) -> Reply
-    requires { ⌜ length (now state) ≡ 163 ⌝ }
-    ensures { λ r. ⌜ (r ≡ hostReply (numberOf (seen .answer)) (valueOf (seen .answer) (seen .value))) × (now (state .exit) ≡ sets (now (state .entry)) 0 (hotBytes (seen .hot))) ⌝ }
-{
-    let hot = seen.hot;
-    let answer = seen.answer;
-    let value = face::value_of(answer, seen.value) as u32;
-    layout::put_hot(state, hot);
-    answered(answer.number(), value)
-}
-
-// The same action, by the fast path where it settles it.
-fn step(state: &mut [u8], buffer: &mut [u8; 512], action: Action, sectors: &mut [u8]) -> Reply
-    requires { ⌜ Admitted (now state) (now buffer) (now sectors) ⌝ }
-    ensures { λ r. ⌜ GivesBack (lentOf (aloneOf (deviceStored (now (state .entry)) (now (buffer .entry))) (now (sectors .entry)) action)) r (now (state .exit)) (now (buffer .exit)) (now (sectors .exit)) ⌝ }
-{
-    let hot = layout::hot_at(state);
-    match fastpath::quick(hot, buffer, action) {
-        Quick::Settles(seen) => settle(state, seen),
-        Quick::Slow => act(state, buffer, action, sectors),
-    }
-}
-
-// Any host action on any lent bytes over any memory.
-pub fn host(state: &mut [u8], buffer: &mut [u8; 512], action: Action, sectors: &mut [u8]) -> Reply
-    ensures { λ r. ⌜ GivesBack (lentStep (now (state .entry)) (now (buffer .entry)) (now (sectors .entry)) action) r (now (state .exit)) (now (buffer .exit)) (now (sectors .exit)) ⌝ }
-{
-    let answer = admission(state, sectors);
-    match answer {
-        Answer::Done => step(state, buffer, action, sectors),
-        Answer::NoRegister => refused(answer),
-        Answer::OutOfShape => refused(answer),
-        Answer::WrongLength => refused(answer),
-        Answer::NoTransfer => refused(answer),
-        Answer::SetupRefused => refused(answer),
-    }
 }
 
 // State and buffer become all zero: what a refused setup hands back.

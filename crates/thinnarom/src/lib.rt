@@ -32,7 +32,7 @@ pub extern "C" fn thinnarom_read_register(
 ) -> Reply
     ensures { λ r. ⌜ GivesBack (lentStep (now (state .entry)) (now (buffer .entry)) (now (sectors .entry)) (Action.ReadRegister n)) r (now (state .exit)) (now (buffer .exit)) (now (sectors .exit)) ⌝ }
 {
-    lent::host(state, buffer, Action::ReadRegister(n), sectors)
+    single::host(state, buffer, Action::ReadRegister(n), sectors)
 }
 
 #[no_mangle]
@@ -45,7 +45,7 @@ pub extern "C" fn thinnarom_write_register(
 ) -> Reply
     ensures { λ r. ⌜ GivesBack (lentStep (now (state .entry)) (now (buffer .entry)) (now (sectors .entry)) (Action.WriteRegister n v)) r (now (state .exit)) (now (buffer .exit)) (now (sectors .exit)) ⌝ }
 {
-    lent::host(state, buffer, Action::WriteRegister(n, v), sectors)
+    single::host(state, buffer, Action::WriteRegister(n, v), sectors)
 }
 
 #[no_mangle]
@@ -56,7 +56,7 @@ pub extern "C" fn thinnarom_read_word(
 ) -> Reply
     ensures { λ r. ⌜ GivesBack (lentStep (now (state .entry)) (now (buffer .entry)) (now (sectors .entry)) Action.ReadWord) r (now (state .exit)) (now (buffer .exit)) (now (sectors .exit)) ⌝ }
 {
-    lent::host(state, buffer, Action::ReadWord, sectors)
+    single::host(state, buffer, Action::ReadWord, sectors)
 }
 
 #[no_mangle]
@@ -68,7 +68,7 @@ pub extern "C" fn thinnarom_write_word(
 ) -> Reply
     ensures { λ r. ⌜ GivesBack (lentStep (now (state .entry)) (now (buffer .entry)) (now (sectors .entry)) (Action.WriteWord w)) r (now (state .exit)) (now (buffer .exit)) (now (sectors .exit)) ⌝ }
 {
-    lent::host(state, buffer, Action::WriteWord(w), sectors)
+    single::host(state, buffer, Action::WriteWord(w), sectors)
 }
 
 #[no_mangle]
@@ -103,7 +103,7 @@ pub extern "C" fn thinnarom_hardware_reset(
 ) -> Reply
     ensures { λ r. ⌜ GivesBack (lentStep (now (state .entry)) (now (buffer .entry)) (now (sectors .entry)) Action.HardwareReset) r (now (state .exit)) (now (buffer .exit)) (now (sectors .exit)) ⌝ }
 {
-    lent::host(state, buffer, Action::HardwareReset, sectors)
+    single::host(state, buffer, Action::HardwareReset, sectors)
 }
 
 #[no_mangle]
@@ -114,7 +114,7 @@ pub extern "C" fn thinnarom_power_on(
 ) -> Reply
     ensures { λ r. ⌜ GivesBack (lentStep (now (state .entry)) (now (buffer .entry)) (now (sectors .entry)) Action.PowerOn) r (now (state .exit)) (now (buffer .exit)) (now (sectors .exit)) ⌝ }
 {
-    lent::host(state, buffer, Action::PowerOn, sectors)
+    single::host(state, buffer, Action::PowerOn, sectors)
 }
 
 #[no_mangle]
@@ -125,5 +125,5 @@ pub extern "C" fn thinnarom_line(
 ) -> Reply
     ensures { λ r. ⌜ GivesBack (lentStep (now (state .entry)) (now (buffer .entry)) (now (sectors .entry)) Action.Line) r (now (state .exit)) (now (buffer .exit)) (now (sectors .exit)) ⌝ }
 {
-    lent::host(state, buffer, Action::Line, sectors)
+    single::host(state, buffer, Action::Line, sectors)
 }

@@ -17,23 +17,23 @@ settled-at-requires c κs = formed-long _ (c .before .before .before .before .be
 write-words-requires : tie.Need-write-words-requires
 write-words-requires c κs = rw (c .before .before .settled-at .ensures) (shaped-memory _ _ (c .before .before .before .before .before .before .before .before .before .pre .ready .shaped) (c .before .before .before .before .before .before .before .before .before .pre .ready .long))
 
-mul-word-of : tie.Need-mul-word-of
-mul-word-of c = omega (arith, c .if1 .taken, c .before .before .before .before .before .before .before .before .before .before .before .before .before .before .good .1 .1 .1)
+mul-pair : tie.Need-mul-pair
+mul-pair c = omega (arith, c .if1 .taken, c .before .before .before .before .before .before .before .before .before .before .before .before .before .before .good .1 .1 .1)
 
-shared-slice-read-word-of : tie.Need-shared-slice-read-word-of
-shared-slice-read-word-of c = search needs
+shared-slice-read-pair : tie.Need-shared-slice-read-pair
+shared-slice-read-pair c = search needs
 
-mul-word-of-2 : tie.Need-mul-word-of-2
-mul-word-of-2 c = omega (arith, c .before .if1 .taken, c .before .before .before .before .before .before .before .before .before .before .before .before .before .before .before .good .1 .1 .1)
+mul-pair-2 : tie.Need-mul-pair-2
+mul-pair-2 c = omega (arith, c .before .if1 .taken, c .before .before .before .before .before .before .before .before .before .before .before .before .before .before .before .good .1 .1 .1)
 
-add-word-of : tie.Need-add-word-of
-add-word-of c = omega (arith, c .before .if1 .taken, c .before .before .before .before .before .before .before .before .before .before .before .before .before .before .before .good .1 .1 .1)
+add-pair : tie.Need-add-pair
+add-pair c = omega (arith, c .before .if1 .taken, c .before .before .before .before .before .before .before .before .before .before .before .before .before .before .before .good .1 .1 .1)
 
-shared-slice-read-word-of-2 : tie.Need-shared-slice-read-word-of-2
-shared-slice-read-word-of-2 c = search needs
+shared-slice-read-pair-2 : tie.Need-shared-slice-read-pair-2
+shared-slice-read-pair-2 c = search needs
 
-word-of-requires : tie.Need-word-of-requires
-word-of-requires c κs = search needs
+pair-requires : tie.Need-pair-requires
+pair-requires c κs = search needs
 
 last-word-requires : tie.Need-last-word-requires
 last-word-requires c κs = (formed-long _ (c .before .before .before .before .before .before .before .before .before .before .before .before .before .before .before .before .before .before .before .before .pre .formed), memory-after (c .before .before .before .before .before .before .before .before .before .before .before .before .before .before .before .before .before .before .before .before .args .state .now) _ _ _ _ _ _ _ _ (c .before .before .before .before .before .before .before .before .before .before .before .before .before .settled-at .ensures) (shaped-memory _ _ (c .before .before .before .before .before .before .before .before .before .before .before .before .before .before .before .before .before .before .before .before .pre .ready .shaped) (c .before .before .before .before .before .before .before .before .before .before .before .before .before .before .before .before .before .before .before .before .pre .ready .long)) (c .before .before .before .before .before .before .before .before .before .before .write-words .ensures))
@@ -42,7 +42,7 @@ add-counted : tie.Need-add-counted
 add-counted c = omega (arith, c .before .before .before .before .before .before .before .before .before .before .before .before .if1 .taken, c .before .before .before .before .before .before .before .before .before .before .before .before .before .before .before .before .before .before .before .before .before .before .before .before .before .before .good .1 .1 .1)
 
 counted-requires : tie.Need-counted-requires
-counted-requires c κs = few-done _ _ _ _ _ _ _ _ _ _ _ _ _ _ (c .before .before .before .before .before .before .before .before .before .before .before .before .before .before .before .before .before .before .before .before .before .hot-at .ensures) (c .before .before .before .before .before .before .before .before .before .before .before .before .before .before .before .before .before .before .before .settled-at .ensures) (bytes-stored _ (omega (arith, c .before .before .before .before .before .before .before .before .before .before .before .before .before .before .before .before .before .before .before .before .before .before .before .before .before .slice-known .given 16)) (omega (arith, c .before .before .before .before .before .before .before .before .before .before .before .before .before .before .before .before .before .before .before .before .before .before .before .before .before .slice-known .given 17))) (c .before .before .before .before .before .before .before .before .before .before .before .before .before .before .before .before .write-words .ensures) (c .before .before .before .before .before .before .before .before .before .before .before .before .if1 .taken) (word-is _ _ (c .before .before .before .before .before .before .before .before .before .word-of .ensures)) (c .before .before .before .before .before .last-word .ensures) (c .if2 .taken)
+counted-requires c κs = few-done _ _ _ _ _ _ _ _ _ _ _ _ _ _ (c .before .before .before .before .before .before .before .before .before .before .before .before .before .before .before .before .before .before .before .before .before .hot-at .ensures) (c .before .before .before .before .before .before .before .before .before .before .before .before .before .before .before .before .before .before .before .settled-at .ensures) (bytes-stored _ (omega (arith, c .before .before .before .before .before .before .before .before .before .before .before .before .before .before .before .before .before .before .before .before .before .before .before .before .before .slice-known .given 16)) (omega (arith, c .before .before .before .before .before .before .before .before .before .before .before .before .before .before .before .before .before .before .before .before .before .before .before .before .before .slice-known .given 17))) (c .before .before .before .before .before .before .before .before .before .before .before .before .before .before .before .before .write-words .ensures) (c .before .before .before .before .before .before .before .before .before .before .before .before .if1 .taken) (word-is _ _ (c .before .before .before .before .before .before .before .before .before .pair .ensures)) (c .before .before .before .before .before .last-word .ensures) (c .if2 .taken)
 
 same-length : tie.Need-same-length
 same-length c = search needs
@@ -51,7 +51,7 @@ same-length-2 : tie.Need-same-length-2
 same-length-2 c = search needs
 
 returns : tie.Need-returns
-returns c = done-gives _ _ _ _ _ _ _ _ _ _ _ _ _ _ _ (c .before .before .before .before .before .before .before .before .before .before .before .before .before .before .before .before .before .before .before .before .before .before .before .before .before .before .before .pre) (c .before .before .before .before .before .before .before .before .before .before .before .before .before .before .before .before .before .before .before .before .before .before .hot-at .ensures) (c .before .before .before .before .before .before .before .before .before .before .before .before .before .before .before .before .before .before .before .before .settled-at .ensures) (c .before .before .before .before .before .before .before .before .before .before .before .before .before .before .before .before .before .write-words .ensures) (c .before .before .before .before .before .before .before .before .before .before .before .before .before .if1 .taken) (word-is _ _ (c .before .before .before .before .before .before .before .before .before .before .word-of .ensures)) (c .before .before .before .before .before .before .last-word .ensures) (c .before .if2 .taken) (c .counted .ensures)
+returns c = done-gives _ _ _ _ _ _ _ _ _ _ _ _ _ _ _ (c .before .before .before .before .before .before .before .before .before .before .before .before .before .before .before .before .before .before .before .before .before .before .before .before .before .before .before .pre) (c .before .before .before .before .before .before .before .before .before .before .before .before .before .before .before .before .before .before .before .before .before .before .hot-at .ensures) (c .before .before .before .before .before .before .before .before .before .before .before .before .before .before .before .before .before .before .before .before .settled-at .ensures) (c .before .before .before .before .before .before .before .before .before .before .before .before .before .before .before .before .before .write-words .ensures) (c .before .before .before .before .before .before .before .before .before .before .before .before .before .if1 .taken) (word-is _ _ (c .before .before .before .before .before .before .before .before .before .before .pair .ensures)) (c .before .before .before .before .before .before .last-word .ensures) (c .before .if2 .taken) (c .counted .ensures)
 
 counted-requires-2 : tie.Need-counted-requires-2
 counted-requires-2 c κs = few-written _ _ _ _ _ _ _ _ _ (c .before .before .before .before .before .before .before .before .before .before .before .before .before .before .before .before .before .before .before .before .before .hot-at .ensures) (c .before .before .before .before .before .before .before .before .before .before .before .before .before .before .before .before .before .before .before .settled-at .ensures) (bytes-stored _ (omega (arith, c .before .before .before .before .before .before .before .before .before .before .before .before .before .before .before .before .before .before .before .before .before .before .before .before .before .slice-known .given 16)) (omega (arith, c .before .before .before .before .before .before .before .before .before .before .before .before .before .before .before .before .before .before .before .before .before .before .before .before .before .slice-known .given 17))) (c .before .before .before .before .before .before .before .before .before .before .before .before .before .before .before .before .write-words .ensures)
@@ -63,7 +63,7 @@ same-length-4 : tie.Need-same-length-4
 same-length-4 c = search needs
 
 returns-2 : tie.Need-returns-2
-returns-2 c = refused-gives _ _ _ _ _ _ _ _ _ _ _ _ _ _ _ (c .before .before .before .before .before .before .before .before .before .before .before .before .before .before .before .before .before .before .before .before .before .before .before .before .before .before .before .pre) (c .before .before .before .before .before .before .before .before .before .before .before .before .before .before .before .before .before .before .before .before .before .before .hot-at .ensures) (c .before .before .before .before .before .before .before .before .before .before .before .before .before .before .before .before .before .before .before .before .settled-at .ensures) (c .before .before .before .before .before .before .before .before .before .before .before .before .before .before .before .before .before .write-words .ensures) (c .before .before .before .before .before .before .before .before .before .before .before .before .before .if1 .taken) (word-is _ _ (c .before .before .before .before .before .before .before .before .before .before .word-of .ensures)) (c .before .before .before .before .before .before .last-word .ensures) (c .before .if2 .left) (c .counted2 .ensures)
+returns-2 c = refused-gives _ _ _ _ _ _ _ _ _ _ _ _ _ _ _ (c .before .before .before .before .before .before .before .before .before .before .before .before .before .before .before .before .before .before .before .before .before .before .before .before .before .before .before .pre) (c .before .before .before .before .before .before .before .before .before .before .before .before .before .before .before .before .before .before .before .before .before .before .hot-at .ensures) (c .before .before .before .before .before .before .before .before .before .before .before .before .before .before .before .before .before .before .before .before .settled-at .ensures) (c .before .before .before .before .before .before .before .before .before .before .before .before .before .before .before .before .before .write-words .ensures) (c .before .before .before .before .before .before .before .before .before .before .before .before .before .if1 .taken) (word-is _ _ (c .before .before .before .before .before .before .before .before .before .before .pair .ensures)) (c .before .before .before .before .before .before .last-word .ensures) (c .before .if2 .left) (c .counted2 .ensures)
 
 put-hot-requires : tie.Need-put-hot-requires
 put-hot-requires c κs = formed-long _ (c .before .before .before .before .before .before .before .before .before .before .before .before .before .before .before .pre .formed)
@@ -87,12 +87,12 @@ write-admitted-spec =
     hot-at-requires
     settled-at-requires
     write-words-requires
-    mul-word-of
-    shared-slice-read-word-of
-    mul-word-of-2
-    add-word-of
-    shared-slice-read-word-of-2
-    word-of-requires
+    mul-pair
+    shared-slice-read-pair
+    mul-pair-2
+    add-pair
+    shared-slice-read-pair-2
+    pair-requires
     last-word-requires
     add-counted
     counted-requires

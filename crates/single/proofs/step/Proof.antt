@@ -1,11 +1,12 @@
 -- Where the fast path settles the action, it is the action; else it has left the buffer.
 use Rattle.fastpath.proofs.Slow.{quick-slow}
-use Rattle.lent.proofs.Lending.{formed-long, settle-gives}
+use Rattle.lent.proofs.Lending.{formed-long}
+use Rattle.single.proofs.Quick.{settle-gives}
 use borrow.Author.Needs.{needs}
 use mathlib.Core.Path.{_∙_, sym}
 use native.Mathlib.Omega.{arith}
-use Rattle.lent.proofs.step.Statement.{statement}
-use Rattle.lent.proofs.step.Tie as tie
+use Rattle.single.proofs.step.Statement.{statement}
+use Rattle.single.proofs.step.Tie as tie
 
 hot-at-requires : tie.Need-hot-at-requires
 hot-at-requires c κs = formed-long _ (c .before .before .before .pre .formed)
@@ -22,8 +23,8 @@ settle-requires c κs = formed-long _ (c .before .before .before .before .before
 enum-told : tie.Need-enum-told
 enum-told c = search needs
 
-act-requires : tie.Need-act-requires
-act-requires c κs = rw (c .before .before .before .before .before .quick .ensures .1 ∙ quick-slow _ _ _ (sym (c .before .before .before .before .before .quick .ensures .0) ∙ c .before .before .before .enum-told .given .1)) (c .before .before .before .before .before .before .before .before .before .before .before .pre)
+slow-requires : tie.Need-slow-requires
+slow-requires c κs = rw (c .before .before .before .before .before .quick .ensures .1 ∙ quick-slow _ _ _ (sym (c .before .before .before .before .before .quick .ensures .0) ∙ c .before .before .before .enum-told .given .1)) (c .before .before .before .before .before .before .before .before .before .before .before .pre)
 
 same-length : tie.Need-same-length
 same-length c = search needs
@@ -39,7 +40,7 @@ same-length-3 : tie.Need-same-length-3
 same-length-3 c = search needs
 
 returns-2 : tie.Need-returns-2
-returns-2 c = rw (c .before .before .before .before .before .before .before .before .before .before .quick .ensures .1 ∙ quick-slow _ _ _ (sym (c .before .before .before .before .before .before .before .before .before .before .quick .ensures .0) ∙ c .before .before .before .before .before .before .before .before .enum-told .given .1)) at (c .before .before .before .before .act .ensures)
+returns-2 c = rw (c .before .before .before .before .before .before .before .before .before .before .quick .ensures .1 ∙ quick-slow _ _ _ (sym (c .before .before .before .before .before .before .before .before .before .before .quick .ensures .0) ∙ c .before .before .before .before .before .before .before .before .enum-told .given .1)) at (c .before .before .before .before .slow .ensures)
 
 pub step-spec : {M : Type 1} → statement M
 step-spec =
@@ -50,7 +51,7 @@ step-spec =
     enum-known-seen
     settle-requires
     enum-told
-    act-requires
+    slow-requires
     same-length
     returns
     same-length-2

@@ -1,7 +1,7 @@
 -- The answer's number and value, and the hot part's bytes.
 use borrow.Author.Needs.{needs}
-use Rattle.lent.proofs.settle.Statement.{statement}
-use Rattle.lent.proofs.settle.Tie as tie
+use Rattle.single.proofs.settle.Statement.{statement}
+use Rattle.single.proofs.settle.Tie as tie
 
 value-of-requires : tie.Need-value-of-requires
 value-of-requires c κs = search needs

@@ -1,0 +1,2 @@
+pub mod Quick
+pub mod Words
