@@ -32,8 +32,7 @@ static void idle(void) {
 static void command_open(uint8_t code) {
     guest g = guest_on(&disk);
     idle();
-    guest_address(&g, 0, SECTORS);
-    guest_write(&g, THINNAROM_COMMAND, code);
+    guest_command_at(&g, code, 0, SECTORS);
 }
 
 static void reading(void) {
@@ -210,6 +209,7 @@ static int only(const char *kind, int rounds) {
             return 0;
         }
     }
+    fprintf(stderr, "cost: no kind %s\n", kind);
     return 2;
 }
 

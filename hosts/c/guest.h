@@ -24,8 +24,8 @@ guest guest_on(thinnarom_disk *disk);
 uint8_t guest_read(guest *g, uint8_t n);
 void guest_write(guest *g, uint8_t n, uint8_t v);
 
-/* Lays an LBA and a number of sectors into registers 2 to 6. */
-void guest_address(guest *g, uint32_t lba, uint8_t count);
+/* Lays an LBA and a number of sectors into registers 2 to 6, and then gives the command. */
+void guest_command_at(guest *g, uint8_t code, uint32_t lba, uint8_t count);
 
 /* One data word each, for a guest that does not know whether a transfer is open. */
 thinnarom_reply guest_read_word(guest *g);

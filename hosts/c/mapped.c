@@ -62,7 +62,7 @@ static void bring_state(thinnarom_disk *disk, const char *path) {
 /* Bytes that tell of their place, so that a sector that is read from another one does not pass. */
 static void fill(uint8_t *bytes, uint32_t lba) {
     for (uint32_t i = 0; i < AT_ONCE * THINNAROM_SECTOR_BYTES; i++) {
-        bytes[i] = (uint8_t)((lba * 512 + i) * 2654435761u >> 24);
+        bytes[i] = (uint8_t)((lba * THINNAROM_SECTOR_BYTES + i) * 2654435761u >> 24);
     }
 }
 
@@ -71,8 +71,7 @@ static void write_sectors(thinnarom_disk *disk) {
     guest g = guest_on(disk);
     for (size_t i = 0; i < PLACE_COUNT; i++) {
         fill(bytes, PLACES[i]);
-        guest_address(&g, PLACES[i], AT_ONCE);
-        guest_write(&g, THINNAROM_COMMAND, THINNAROM_WRITE_SECTORS);
+        guest_command_at(&g, THINNAROM_WRITE_SECTORS, PLACES[i], AT_ONCE);
         expect(guest_write_words(&g, bytes, sizeof bytes) == sizeof bytes / 2, "the words pass");
         expect(guest_read(&g, THINNAROM_STATUS) == STATUS_IDLE, "WRITE SECTORS ends well");
     }
@@ -83,12 +82,11 @@ static void read_sectors(thinnarom_disk *disk) {
     guest g = guest_on(disk);
     for (size_t i = 0; i < PLACE_COUNT; i++) {
         fill(wanted, PLACES[i]);
-        guest_address(&g, PLACES[i], AT_ONCE);
-        guest_write(&g, THINNAROM_COMMAND, THINNAROM_READ_SECTORS);
+        guest_command_at(&g, THINNAROM_READ_SECTORS, PLACES[i], AT_ONCE);
         expect(guest_read_words(&g, bytes, sizeof bytes) == sizeof bytes / 2, "the words come back");
         expect(guest_read(&g, THINNAROM_STATUS) == STATUS_IDLE, "READ SECTORS ends well");
         expect(memcmp(bytes, wanted, sizeof bytes) == 0, "a sector is read back as it was written");
-        expect(memcmp(disk->sectors + (size_t)512 * PLACES[i], wanted, sizeof bytes) == 0, "the file has it at 512 x LBA");
+        expect(memcmp(disk->sectors + (size_t)THINNAROM_SECTOR_BYTES * PLACES[i], wanted, sizeof bytes) == 0, "the file has it at 512 x LBA");
     }
 }
 
