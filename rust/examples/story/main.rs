@@ -416,6 +416,12 @@ fn plugins_turn(disk: &mut Disk) -> Step {
     Ok(())
 }
 
+fn holds(bytes: &[u8], text: &str) -> bool {
+    bytes
+        .windows(text.len())
+        .any(|part| part == text.as_bytes())
+}
+
 fn whole_story() -> Step {
     let story = Story::Told;
     story.say(OPENING);
@@ -423,6 +429,10 @@ fn whole_story() -> Step {
     story.provision(disk, &PAYMENT)?;
     story.say("\n2. Payment's turn\n");
     story.payment_opens(disk, &PAYMENT)?;
+    expect(
+        holds(&disk.device.to_bytes(), PAYMENT.tokens[TOKENS - 1]),
+        "the last token stands in the sector buffer",
+    )?;
     story.say("  Payment ends here. The disk is open, and the last token still stands in its sector buffer.\n");
     story.say("3. Before anyone else has a turn, the host switches the disk off and on\n");
     story.power_on(disk, "locked, buffer zeroed, five attempts")?;
