@@ -171,6 +171,9 @@ class Checking(Folder):
 
     def test_all_well(self):
         self.assertEqual(self.check(self.program("")), (0, "2 recordings, 1 programs, 0 differences\n", ""))
+        self.addCleanup(os.chdir, os.getcwd())
+        os.chdir(self.home)
+        self.assertEqual(self.check("program"), (0, "2 recordings, 1 programs, 0 differences\n", ""))
 
     def test_files_against_texts(self):
         for name, data in [("good.rec", b"\x01"), ("torn.reply", b""), ("README.md", b"prose\n\n## The recordings\n")]:

@@ -60,7 +60,7 @@ def reply_of(other, recording):
         return None
     if not os.path.isfile(other) or not os.access(other, os.X_OK) or other.endswith(".reply"):
         return read_bytes(other)
-    reply, code = run_whole(os.path.abspath(other), recording)
+    reply, code = run_whole(other, recording)
     if code < 0:
         raise BadInput(f"{other}: ended by signal {-code}")
     return reply
