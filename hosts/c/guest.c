@@ -4,7 +4,7 @@
 #include <stdlib.h>
 
 guest guest_on(thinnarom_disk *disk) {
-    guest g = {disk, UINT64_C(0xCBF29CE484222325), 0};
+    guest g = {disk, UINT64_C(0xCBF29CE484222325), 0, 0, 0};
     return g;
 }
 

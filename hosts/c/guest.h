@@ -17,6 +17,7 @@ typedef struct guest {
     thinnarom_disk *disk;
     uint64_t heard;      /* a digest of all that the disk has told this guest, so that two guests can be compared */
     unsigned long words; /* data words that it was given */
+    unsigned long identify_words, zero_words; /* those of them that are IDENTIFY DEVICE's, and zeros of READ BUFFER; a story counts them */
 } guest;
 
 guest guest_on(thinnarom_disk *disk);

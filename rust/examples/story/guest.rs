@@ -29,6 +29,9 @@ pub struct Guest<'a> {
     pub heard: Vec<String>,
     /// How many data words it was given.
     pub words: usize,
+    /// Those of them that are IDENTIFY DEVICE's, and zeros of READ BUFFER; the story counts them.
+    pub identify_words: usize,
+    pub zero_words: usize,
 }
 
 pub fn expect(met: bool, expectation: &str) -> Step {
@@ -45,6 +48,8 @@ impl Guest<'_> {
             disk,
             heard,
             words: 0,
+            identify_words: 0,
+            zero_words: 0,
         }
     }
 

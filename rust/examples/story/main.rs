@@ -134,6 +134,7 @@ impl Story {
         guest.write(Register::Command, IDENTIFY_DEVICE)?;
         let passed = guest.read_words(&mut block)?;
         expect(passed == BLOCK_WORDS, "IDENTIFY DEVICE gives a block")?;
+        guest.identify_words += passed;
         let security = u16::from_le_bytes([block[256], block[257]]);
         self.tell("IDENTIFY DEVICE (ECh)", &words::security(security));
         expect(
@@ -149,6 +150,7 @@ impl Story {
         for _ in 0..BLOCK_WORDS {
             zeros += usize::from(guest.read_word()? == 0);
         }
+        guest.zero_words += zeros;
         let all = zeros == BLOCK_WORDS;
         self.tell(
             what,
@@ -381,13 +383,20 @@ fn plugins_turn(disk: &mut Disk) -> Step {
     story.say("\n4. The plugin's turn; it has no password\n");
     let mut plugin = Guest::on(disk);
     story.plugin_tries_everything(&mut plugin)?;
-    let Guest { heard, words, .. } = plugin;
+    let Guest {
+        heard,
+        words,
+        identify_words,
+        zero_words,
+        ..
+    } = plugin;
     story.say("\n5. What the plugin got, as the host sees it\n");
-    let given = format!("{words}: 3 x 256 of IDENTIFY DEVICE, 5 x 256 zeros of READ BUFFER");
+    let given =
+        format!("{words}: {identify_words} of IDENTIFY DEVICE, {zero_words} zeros of READ BUFFER");
     story.tell("data words that it was given", &given);
     expect(
-        words == 8 * BLOCK_WORDS,
-        "the plugin was given eight blocks",
+        words == identify_words + zero_words,
+        "the plugin was given nothing else",
     )?;
     expect(disk.sectors == before, "the plugin changed no sector")?;
     story.tell("sectors that it changed", "none");
