@@ -125,9 +125,12 @@ static void first_life(const char *path, const char *state_path) {
 static void second_life(const char *path, const char *state_path) {
     static thinnarom_disk disk;
     struct stat found;
+    static const uint8_t zeros[THINNAROM_BUFFER_BYTES];
     bring_state(&disk, state_path);
+    memset(disk.buffer, 0xA5, sizeof disk.buffer);
     thinnarom_disk_lend(&disk, map(path, false), length());
     expect(thinnarom_disk_power_on(&disk).answer == THINNAROM_DONE, "the disk comes back to life");
+    expect(memcmp(disk.buffer, zeros, sizeof zeros) == 0, "a power-on zeroes the buffer");
     read_sectors(&disk);
     unmap(disk.sectors, path);
     need(stat(path, &found) == 0, path);
