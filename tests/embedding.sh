@@ -33,7 +33,7 @@ header() {
 story() {
     build_host story $checked hosts/c/story.c hosts/c/guest.c || return 1
     "$hosts/story" >build/story.txt || return 1
-    diff hosts/story.txt build/story.txt && echo "as in hosts/story.txt, $(wc -l <build/story.txt) lines"
+    told_as_written build/story.txt
 }
 
 mapped() {

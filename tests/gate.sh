@@ -8,6 +8,7 @@ rust_log=$(mktemp) || exit 2
 trap 'rm -f "$log" "$rust_log"' EXIT
 parts='' failed=0
 . tools/programs.sh
+. tests/steps.sh
 
 # Runs one part, and keeps how long it took and whether it passed.
 part() { # NAME COMMAND..
@@ -28,17 +29,13 @@ prove() {
     return "${PIPESTATUS[0]}"
 }
 
-# The Rust packages, built for the parts after this one, and their own tests, in the profile that builds quickest;
-# what cargo prints of these is shown where one fails.
+# The Rust packages, built for the parts after this one, and their own tests, in the profile that builds quickest.
 rust_tests() {
     local package printed
     build_others || return 1
     for package in second differential; do
-        if ! printed=$(cargo test --offline --quiet --manifest-path "$package/Cargo.toml" 2>&1); then
-            echo "$printed"
-            return 1
-        fi
-        echo "$package: $(awk '/^test result: ok/ { n += $4 } END { print n + 0 }' <<<"$printed") tests passed"
+        printed=$(package_tests "$package") || { echo "$printed"; return 1; }
+        echo "$package: $printed"
     done
 }
 

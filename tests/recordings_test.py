@@ -3,6 +3,7 @@ import contextlib
 import io
 import os
 import pathlib
+import subprocess
 import sys
 import tempfile
 import unittest
@@ -61,6 +62,7 @@ class CommandLine(Folder):
         self.assertEqual(run("write", self.text, self.recording), (0, b"", ""))
         self.assertEqual(self.recording.read_bytes(), self.RECORDING)
         self.assertEqual(run("write", self.text), (0, self.RECORDING, ""))
+        self.assertEqual(run("write", self.text, "-"), (0, self.RECORDING, ""))
         self.assertEqual(run("write", "-", given=b"\xef\xbb\xbfread status\nwrite command EC\nword # \xc3\xa4\n"), (0, self.RECORDING, ""))
 
     def test_read_alone_with_a_reply_and_with_a_program(self):
@@ -124,6 +126,18 @@ class CommandLine(Folder):
         with mock.patch.object(form, "LONGEST", 10):
             self.assertEqual(run("read", self.recording), (1, b"", f"{self.recording}: longer than 10 bytes\n"))
 
+    def test_output_that_can_not_be_had(self):
+        self.assertEqual(run("write", self.text, "/dev/full"), (1, b"", "/dev/full: No space left on device\n"))
+        reader, torn = os.pipe()
+        os.close(reader)
+        with open("/dev/full", "wb") as full, open(torn, "wb") as torn:
+            for out, said in ((full, b"standard output: No space left on device\n"), (torn, b"")):
+                for job in (["explain", self.recording], ["read", self.recording], ["write", self.text], ["check"]):
+                    with self.subTest(said=said, job=job):
+                        done = subprocess.run([sys.executable, recordings.__file__, *job], stdout=out, stderr=subprocess.PIPE,
+                                              env={**os.environ, "PYTHONUNBUFFERED": ""})
+                        self.assertEqual((done.returncode, done.stderr), (1, said))
+
     def test_replies_that_can_not_be_had(self):
         for body, reason in [("reply = b''", "the reply starts with nothing, not with version 01"),
                              ("os.kill(os.getpid(), 9)", "ended by signal 9")]:
@@ -157,6 +171,9 @@ class Checking(Folder):
 
     def test_all_well(self):
         self.assertEqual(self.check(self.program("")), (0, "2 recordings, 1 programs, 0 differences\n", ""))
+        self.addCleanup(os.chdir, os.getcwd())
+        os.chdir(self.home)
+        self.assertEqual(self.check("program"), (0, "2 recordings, 1 programs, 0 differences\n", ""))
 
     def test_files_against_texts(self):
         for name, data in [("good.rec", b"\x01"), ("torn.reply", b""), ("README.md", b"prose\n\n## The recordings\n")]:

@@ -43,9 +43,9 @@ def functions(path):
             owner = re.match(r'impl (\w+)', line).group(1) + '::'
         m = re.match(r'( *)(pub(?:\(\w+\))? )?(?:const )?(?:extern "C" )?fn (\w+)', line)
         if m:
-            # its body ends at the first brace that closes at its own indent, or on its first line; a declaration of C's has none
+            # its body ends at the first brace that closes at its own indent, or on its first line; a declaration, which has none, at its ;
             end = re.compile(re.escape(m.group(1)) + r'(\}|\).*;)$')
-            ends = (i for i in range(first, len(lines)) if end.match(lines[i]) or i == first and line.endswith('}'))
+            ends = (i for i in range(first, len(lines)) if end.match(lines[i]) or i == first and line.endswith(('}', ';')))
             last = next(ends)
             required = any(re.match(r' *requires', lines[i]) for i in range(first, last))
             yield (owner if m.group(1) else '') + m.group(3), last - first + 1, bool(m.group(2)), required

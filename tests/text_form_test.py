@@ -2,6 +2,7 @@
 import pathlib
 import random
 import sys
+import tracemalloc
 import unittest
 
 ROOT = pathlib.Path(__file__).resolve().parent.parent
@@ -130,11 +131,13 @@ class BadText(unittest.TestCase):
         ("word -> answer 2", "1 and 4"), ("read status ->", "nothing stands right"), ('put-password user "x"', "put-password takes"),
         ('put-password user low "x"', "user|master"), (f'put-password user high "{"x" * 33}"', "at most 32"),
         ("put-block 256=0000", "above 255"), ("put-block 0", "not PLACES=WORD"), ('put-block 255="abc"', "past word 255"),
+        ('put-block 3-5="abc"', "one place"), ("get-block 0=0001", "right of the arrow"), ("get-block 0=0001 -> 0=0001", "right of the arrow"),
         ('put-block 1="x', "quote is not closed"), ("0 line -> 0", "no action"), ("99999999 line -> 0", "a count is at most"),
         ("90000 put-block 0=0001", "grows past"), ("raw", "raw needs bytes"), ("raw 0", "2 hex digits"),
         ("raw 00 -> fault", "line of its own"), ("version 2", "2 hex digits")]
     TEXTS = [
-        ("line -> 0\nversion 02", 3, "before every record"), ("raw 00", 2, "cut short"),
+        ("line -> 0\nversion 02", 3, "before every record"), ("version none\nversion 02\n-> fault", 3, "stands once"),
+        ("version none\nraw 01\nversion 02", 4, "before every record"), ("raw 00", 2, "cut short"),
         ("raw 00\nline -> 0", 3, "raw bytes have to end"), ("-> fault", 2, "no fault"),
         ("raw 00 02 01 07\n-> fault", 2, "no fault"), ("raw 00\n-> fault\nline -> 0", 4, "after a fault"),
         ("raw 00\n-> fault\n-> fault", 4, "first fault")]
@@ -166,10 +169,23 @@ class BadText(unittest.TestCase):
 
     def test_a_loose_text_is_held_to_what_it_says(self):
         for lines, reason in [(["raw 00 01 07", "-> fault"], "no fault"), (["raw 00 01 08", "line -> 0"], "raw bytes have to end"),
-                              (["line -> 12"], "1 hex digits"), (["raw 00", "-> fault", "line -> 0"], "after a fault")]:
+                              (["line -> 12"], "1 hex digits"), (["raw 00", "-> fault", "line -> 0"], "after a fault"),
+                              (["version 02", "line -> 0"], "version is not 01"), (["version none", "line", "line -> 0"], "version is not 01")]:
             with self.subTest(lines=lines):
                 with self.assertRaisesRegex(BadInput, rf"^NAME\.txt:\d: .*{reason}"):
                     loose(*lines)
+
+
+class LongCounts(unittest.TestCase):
+    def test_a_repeated_line_takes_little_memory(self):
+        times, most_bytes_a_record = 100_000, 64
+        tracemalloc.start()
+        self.addCleanup(tracemalloc.stop)
+        for line in ("word", "word -> 0001", "word -> answer 4", "line -> 0"):
+            with self.subTest(line=line):
+                tracemalloc.clear_traces()
+                self.assertEqual(len(loose(f"{times} {line}").steps), times)
+                self.assertLess(tracemalloc.get_traced_memory()[1], most_bytes_a_record * times)
 
 
 class Generator:

@@ -154,6 +154,11 @@ def table_line(row):
     return "| " + " | ".join(cells) + " |"
 
 
+def table_head(heads):
+    """The lines above a table's rows: names, the first column's at the left, and the line below them."""
+    return ["| " + " | ".join(heads) + " |", "|---" + "|--:" * (len(heads) - 1) + "|"]
+
+
 def table_text(rows, arguments):
     heads = ["recording", "records", "replay ms", "second ms", "ratio", "target", "replay CPU ms"]
     heads += ["second CPU ms", "CPU ratio", "replay MB/s", "replay instr./record", "second instr./record"]
@@ -163,8 +168,7 @@ def table_text(rows, arguments):
         f"callgrind on recordings of about {INSTRUCTION_RECORDING_BYTES / 1e6:.0f} MB, start-up "
         f"included; target at most {INSTRUCTION_TARGET} for replay.",
         "",
-        "| " + " | ".join(heads) + " |",
-        "|---" + "|--:" * (len(heads) - 1) + "|",
+        *table_head(heads),
     ]
     return "\n".join(lines + [table_line(row) for row in rows])
 

@@ -13,7 +13,7 @@ import subprocess
 import sys
 from pathlib import Path
 
-from bench import verdict, write_table
+from bench import table_head, verdict, write_table
 
 MARKS = ("<!-- cost table begins -->", "<!-- cost table ends -->")
 LABELS = {
@@ -111,8 +111,7 @@ def table_text(arguments, times, counts):
         f"turns. A block in one call takes {ratios[0]:.2f} (read) and {ratios[1]:.2f} (written) of memcpy and a register read together; "
         f"target {BLOCK_TARGET}.",
         "",
-        "| " + " | ".join(heads) + " |",
-        "|---" + "|--:" * (len(heads) - 1) + "|",
+        *table_head(heads),
         *table_lines(times, counts),
         "",
         "Missed: " + "; ".join(missed_targets(times[0])) + "." if any(missed_targets(times[0])) else "All targets are met.",

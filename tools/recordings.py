@@ -7,8 +7,8 @@
   make                                   texts of recordings/ -> .rec, .reply and the table in README.md
   check [PROGRAM..]                      these files against the texts, then every PROGRAM against the replies
 
-TEXT and RECORDING may be - for standard input; explain takes a name that ends in .txt for a text. A PROGRAM is an
-executable that gets the recording and gives its reply. recordings/README.md has the text form.
+A - is standard input, and standard output where write names its RECORDING; explain takes a name that ends in .txt for a
+text. A PROGRAM is an executable that gets the recording and gives its reply. recordings/README.md has the text form.
 """
 import argparse
 import contextlib
@@ -27,20 +27,31 @@ from sessions.text import decode, parse
 HOME = pathlib.Path(__file__).resolve().parent.parent / "recordings"
 
 
+@contextlib.contextmanager
+def naming(name):
+    """What is wrong in here is wrong with the file, or the program, of that name."""
+    try:
+        yield
+    except BadInput as reason:
+        raise BadInput(f"{name}: {reason}") from None
+    except OSError as reason:
+        raise BadInput(f"{name}: {reason.strerror}") from None
+
+
+def name_of(path):
+    return "standard input" if path == "-" else path
+
+
 def read_bytes(path):
-    if path == "-":
-        data = sys.stdin.buffer.read(form.LONGEST + 1)
-    else:
-        with open(path, "rb") as file:
-            data = file.read(form.LONGEST + 1)
-    if len(data) > form.LONGEST:
-        raise BadInput(f"{path}: longer than {form.LONGEST:,} bytes")
-    return data
+    with naming(name_of(path)), contextlib.nullcontext(sys.stdin.buffer) if path == "-" else open(path, "rb") as file:
+        data = file.read(form.LONGEST + 1)
+        if len(data) > form.LONGEST:
+            raise BadInput(f"longer than {form.LONGEST:,} bytes")
+        return data
 
 
 def read_session(path):
-    name = "standard input" if path == "-" else path
-    return parse(decode(read_bytes(path), name, "utf-8-sig"), name, strict=False)
+    return parse(decode(read_bytes(path), name_of(path), "utf-8-sig"), name_of(path), strict=False)
 
 
 def reply_of(other, recording):
@@ -49,25 +60,17 @@ def reply_of(other, recording):
         return None
     if not os.path.isfile(other) or not os.access(other, os.X_OK) or other.endswith(".reply"):
         return read_bytes(other)
-    reply, code = run_whole(os.path.abspath(other), recording)
+    reply, code = run_whole(other, recording)
     if code < 0:
         raise BadInput(f"{other}: ended by signal {-code}")
     return reply
 
 
-@contextlib.contextmanager
-def naming(name):
-    """What is wrong in here is wrong with the file, or the program, of that name."""
-    try:
-        yield
-    except BadInput as reason:
-        raise BadInput(f"{name}: {reason}") from None
-
-
 def job_write(chosen):
     recording = read_session(chosen.text).recording
-    if chosen.recording:
-        pathlib.Path(chosen.recording).write_bytes(recording)
+    if chosen.recording not in (None, "-"):
+        with naming(chosen.recording):
+            pathlib.Path(chosen.recording).write_bytes(recording)
     else:
         sys.stdout.buffer.write(recording)
         sys.stdout.buffer.flush()
@@ -78,7 +81,8 @@ def job_read(chosen):
     recording = read_bytes(chosen.recording)
     reply = reply_of(chosen.other, recording)
     with naming(chosen.other):
-        print(retell(recording, reply), end="")
+        text = retell(recording, reply)
+    print(text, end="")
     return 0
 
 
@@ -114,8 +118,8 @@ def command_line():
 
 
 def plain(reason):
-    if isinstance(reason, OSError) and reason.filename:
-        return f"{reason.filename}: {reason.strerror}"
+    if isinstance(reason, OSError):
+        return f"{reason.filename or 'standard output'}: {reason.strerror}"
     if isinstance(reason, subprocess.TimeoutExpired):
         return f"{reason.cmd[0]}: no end after {reason.timeout} s"
     return str(reason)
@@ -124,12 +128,14 @@ def plain(reason):
 def main(arguments):
     chosen = command_line().parse_args(arguments)
     try:
-        return chosen.run(chosen)
-    except BrokenPipeError:
-        os.dup2(os.open(os.devnull, os.O_WRONLY), sys.stdout.fileno())  # the reader has seen enough
-        return 1
+        status = chosen.run(chosen)
+        sys.stdout.flush()
+        return status
     except (BadInput, OSError, subprocess.TimeoutExpired) as reason:
-        print(plain(reason), file=sys.stderr)
+        if isinstance(reason, OSError) and not reason.filename:  # of an open stream; the end of the program is not to try it again
+            os.dup2(os.open(os.devnull, os.O_WRONLY), sys.stdout.fileno())
+        if not isinstance(reason, BrokenPipeError):  # else the reader has seen enough
+            print(plain(reason), file=sys.stderr)
         return 1
 
 

@@ -4,7 +4,7 @@
 #include <stdlib.h>
 
 guest guest_on(thinnarom_disk *disk) {
-    guest g = {disk, UINT64_C(0xCBF29CE484222325), 0};
+    guest g = {disk, UINT64_C(0xCBF29CE484222325), 0, 0, 0};
     return g;
 }
 
@@ -41,12 +41,13 @@ void guest_write(guest *g, uint8_t n, uint8_t v) {
     expect(reply.answer == THINNAROM_DONE, "a register is written");
 }
 
-void guest_address(guest *g, uint32_t lba, uint8_t count) {
+void guest_command_at(guest *g, uint8_t code, uint32_t lba, uint8_t count) {
     guest_write(g, THINNAROM_SECTOR_COUNT, count);
     guest_write(g, THINNAROM_SECTOR_NUMBER, (uint8_t)lba);
     guest_write(g, THINNAROM_CYLINDER_LOW, (uint8_t)(lba >> 8));
     guest_write(g, THINNAROM_CYLINDER_HIGH, (uint8_t)(lba >> 16));
     guest_write(g, THINNAROM_DEVICE_HEAD, (uint8_t)(THINNAROM_DEVICE_HEAD_LBA | ((lba >> 24) & 0x0F)));
+    guest_write(g, THINNAROM_COMMAND, code);
 }
 
 thinnarom_reply guest_read_word(guest *g) {

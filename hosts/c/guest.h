@@ -17,6 +17,7 @@ typedef struct guest {
     thinnarom_disk *disk;
     uint64_t heard;      /* a digest of all that the disk has told this guest, so that two guests can be compared */
     unsigned long words; /* data words that it was given */
+    unsigned long identify_words, zero_words; /* those of them that are IDENTIFY DEVICE's, and zeros of READ BUFFER; a story counts them */
 } guest;
 
 guest guest_on(thinnarom_disk *disk);
@@ -24,8 +25,8 @@ guest guest_on(thinnarom_disk *disk);
 uint8_t guest_read(guest *g, uint8_t n);
 void guest_write(guest *g, uint8_t n, uint8_t v);
 
-/* Lays an LBA and a number of sectors into registers 2 to 6. */
-void guest_address(guest *g, uint32_t lba, uint8_t count);
+/* Lays an LBA and a number of sectors into registers 2 to 6, and then gives the command. */
+void guest_command_at(guest *g, uint8_t code, uint32_t lba, uint8_t count);
 
 /* One data word each, for a guest that does not know whether a transfer is open. */
 thinnarom_reply guest_read_word(guest *g);

@@ -114,6 +114,12 @@ static void run(guest *g, uint8_t code, const char *what, uint8_t wanted) {
     command_stands(g, what, wanted);
 }
 
+/* Asks a locked disk for the tokens, which it refuses. */
+static void ask_for_tokens(guest *g, const char *what) {
+    guest_command_at(g, THINNAROM_READ_SECTORS, TOKENS_LBA, TOKENS);
+    command_stands(g, what, STATUS_FAILED);
+}
+
 static void send_password(guest *g, uint8_t code, const char *password, const char *what, uint8_t wanted) {
     uint8_t block[THINNAROM_SECTOR_BYTES];
     password_block(block, 0, password);
@@ -128,6 +134,7 @@ static void identify(guest *g, uint16_t wanted) {
     char text[TEXT];
     guest_write(g, THINNAROM_COMMAND, THINNAROM_IDENTIFY_DEVICE);
     expect(guest_read_words(g, block, sizeof block) == THINNAROM_BLOCK_WORDS, "IDENTIFY DEVICE gives a block");
+    g->identify_words += THINNAROM_BLOCK_WORDS;
     uint16_t security = word_of(block, THINNAROM_SECURITY_WORD);
     snprintf(text, sizeof text, "word 128 is %04Xh:", (unsigned)security);
     add_names(text, security, SECURITY_BITS);
@@ -144,6 +151,7 @@ static void read_buffer(guest *g, const char *what) {
         expect(reply.answer == THINNAROM_DONE, "READ BUFFER gives 256 words");
         zeros += reply.value == 0;
     }
+    g->zero_words += zeros;
     tell(what, zeros == THINNAROM_BLOCK_WORDS ? "256 words, all zero" : "words that are not zero");
     expect(zeros == THINNAROM_BLOCK_WORDS, "nothing stands in the buffer");
 }
@@ -177,8 +185,7 @@ static void provision(thinnarom_disk *disk, const secrets *of) {
     guest payment = guest_on(disk);
     uint8_t sectors[TOKENS * THINNAROM_SECTOR_BYTES];
     lay_tokens(sectors, of);
-    guest_address(&payment, TOKENS_LBA, TOKENS);
-    guest_write(&payment, THINNAROM_COMMAND, THINNAROM_WRITE_SECTORS);
+    guest_command_at(&payment, THINNAROM_WRITE_SECTORS, TOKENS_LBA, TOKENS);
     expect(guest_write_words(&payment, sectors, sizeof sectors) == TOKENS * THINNAROM_BLOCK_WORDS, "the tokens are written");
     command_stands(&payment, "WRITE SECTORS (30h), LBA 16, 3 sectors: the tokens", STATUS_IDLE);
     send_password(&payment, THINNAROM_SECURITY_SET_PASSWORD, of->password,
@@ -188,8 +195,7 @@ static void provision(thinnarom_disk *disk, const secrets *of) {
 
 static void read_tokens(guest *payment, const secrets *of) {
     uint8_t wanted[TOKENS * THINNAROM_SECTOR_BYTES], sectors[TOKENS * THINNAROM_SECTOR_BYTES];
-    guest_address(payment, TOKENS_LBA, TOKENS);
-    guest_write(payment, THINNAROM_COMMAND, THINNAROM_READ_SECTORS);
+    guest_command_at(payment, THINNAROM_READ_SECTORS, TOKENS_LBA, TOKENS);
     expect(thinnarom_disk_line(payment->disk).value == 1, "the interrupt line tells that a sector is ready");
     expect(guest_read_words(payment, sectors, sizeof sectors) == TOKENS * THINNAROM_BLOCK_WORDS, "the tokens are read");
     command_stands(payment, "READ SECTORS (20h), LBA 16, 3 sectors", STATUS_IDLE);
@@ -203,8 +209,7 @@ static void read_tokens(guest *payment, const secrets *of) {
 static void payment_opens(thinnarom_disk *disk, const secrets *of) {
     guest payment = guest_on(disk);
     identify(&payment, 0x0007);
-    guest_address(&payment, TOKENS_LBA, TOKENS);
-    run(&payment, THINNAROM_READ_SECTORS, "READ SECTORS (20h), before the password", STATUS_FAILED);
+    ask_for_tokens(&payment, "READ SECTORS (20h), before the password");
     send_password(&payment, THINNAROM_SECURITY_UNLOCK, of->password, "SECURITY UNLOCK (F2h), payment's password", STATUS_IDLE);
     read_tokens(&payment, of);
 }
@@ -234,8 +239,7 @@ static void looks_around(guest *plugin) {
 }
 
 static void asks_for_sectors(guest *plugin) {
-    guest_address(plugin, TOKENS_LBA, TOKENS);
-    run(plugin, THINNAROM_READ_SECTORS, "READ SECTORS (20h), LBA 16, 3 sectors", STATUS_FAILED);
+    ask_for_tokens(plugin, "READ SECTORS (20h), LBA 16, 3 sectors");
     run(plugin, THINNAROM_READ_VERIFY_SECTORS, "READ VERIFY SECTORS (40h)", STATUS_FAILED);
     run(plugin, THINNAROM_WRITE_SECTORS, "WRITE SECTORS (30h)", STATUS_FAILED);
     run(plugin, THINNAROM_SECURITY_SET_PASSWORD, "SECURITY SET PASSWORD (F1h)", STATUS_FAILED);
@@ -284,8 +288,7 @@ static void tries_the_right_one(guest *plugin) {
     tell("writes its words all the same", "answer 4, no transfer that way");
     run(plugin, THINNAROM_SECURITY_ERASE_PREPARE, "SECURITY ERASE PREPARE (F3h)", STATUS_IDLE);
     run(plugin, THINNAROM_SECURITY_ERASE_UNIT, "SECURITY ERASE UNIT (F4h)", STATUS_FAILED);
-    guest_address(plugin, TOKENS_LBA, TOKENS);
-    run(plugin, THINNAROM_READ_SECTORS, "READ SECTORS (20h), LBA 16, 3 sectors", STATUS_FAILED);
+    ask_for_tokens(plugin, "READ SECTORS (20h), LBA 16, 3 sectors");
     read_buffer(plugin, "READ BUFFER (E4h)");
     identify(plugin, 0x0017);
 }
@@ -352,9 +355,10 @@ static void middle(disk_and_sectors *bus) {
     plugin_tries_everything(&plugin);
     puts("\n5. What the plugin got, as the host sees it");
     puts("");
-    snprintf(text, sizeof text, "%lu: 3 x 256 of IDENTIFY DEVICE, 5 x 256 zeros of READ BUFFER", plugin.words);
+    snprintf(text, sizeof text, "%lu: %lu of IDENTIFY DEVICE, %lu zeros of READ BUFFER", plugin.words, plugin.identify_words,
+             plugin.zero_words);
     tell("data words that it was given", text);
-    expect(plugin.words == 8 * THINNAROM_BLOCK_WORDS, "the plugin was given eight blocks");
+    expect(plugin.words == plugin.identify_words + plugin.zero_words, "the plugin was given nothing else");
     expect(memcmp(before, bus->sectors, sizeof before) == 0, "the plugin changed no sector");
     tell("sectors that it changed", "none");
     expect(learns_the_same_elsewhere(&plugin), "a disk with other tokens and passwords tells the plugin the same");

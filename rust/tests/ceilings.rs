@@ -4,7 +4,9 @@
 mod common;
 
 use common::action::{on_device, word_by_word, Action};
+use common::judge::made_by_91h;
 use common::random::Random;
+use common::view::{by_chs, by_lba};
 use thinnarom::{Device, Geometry, Identity, Setup};
 
 const GEOMETRY: Geometry = Geometry {
@@ -79,34 +81,19 @@ impl Largest {
     }
 }
 
-fn lba(number: usize) -> [u8; 4] {
-    let [lowest, low, high, highest] = (number as u32).to_le_bytes();
-    [lowest, low, high, 0x40 | highest & 0x0F]
-}
-
-fn chs(number: usize, heads: usize, sectors: usize) -> [u8; 4] {
-    let track = number / sectors;
-    let [low, high, ..] = (track / heads).to_le_bytes();
-    [
-        (number % sectors + 1) as u8,
-        low,
-        high,
-        (track % heads) as u8,
-    ]
-}
-
 #[test]
 fn sectors_all_over_the_largest_disk() {
     let (mut disk, mut random) = (Largest::new(), Random::new(4, 0));
     let capacity = GEOMETRY.capacity();
     assert_eq!(capacity, 1_032_192);
+    let factory = made_by_91h(capacity as u32, 16, 63).unwrap();
     let mut numbers = vec![0, 255, 256, 65_535, 65_536, 1 << 24];
     numbers.extend(capacity - 3..capacity + 2);
     numbers.extend((0..100).map(|_| random.below(capacity)));
     for number in numbers {
         let count = random.between(1, 4);
         let good = capacity.saturating_sub(number).min(count) as u32;
-        for address in [lba(number), chs(number, 16, 63)] {
+        for address in [by_lba(number as u32), by_chs(number as u32, factory)] {
             let passed = disk.write_and_read(address, count as u8, &mut random);
             assert_eq!(passed, [256 * good; 2], "{number}, {address:02X?}");
             disk.compare(number.saturating_sub(2), count + 4);
@@ -121,12 +108,13 @@ fn translations_of_the_largest_disk() {
     for (heads, sectors) in [(1, 1), (16, 255), (16, 1), (1, 255), (3, 7), (16, 63)] {
         disk.write_registers([sectors as u8, 1, 0, 0, (heads - 1) as u8]);
         disk.command(0x91);
-        let reach = (GEOMETRY.capacity() / (heads * sectors)).min(65_535) * heads * sectors;
+        let made = made_by_91h(GEOMETRY.capacity() as u32, heads, sectors).unwrap();
+        let reach = made.product();
         for number in [0, heads * sectors, reach / 2, reach - 2, reach - 1, reach] {
-            let good = (reach - number).min(3) as u32;
-            let passed = disk.write_and_read(chs(number, heads, sectors), 3, &mut random);
-            assert_eq!(passed, [256 * good; 2], "{heads} x {sectors}, {number}");
-            disk.compare(number.saturating_sub(2), 8);
+            let good = (reach - number).min(3);
+            let passed = disk.write_and_read(by_chs(number, made), 3, &mut random);
+            assert_eq!(passed, [256 * good; 2], "{made:?}, {number}");
+            disk.compare(number.saturating_sub(2) as usize, 8);
         }
     }
 }

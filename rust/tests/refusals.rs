@@ -332,6 +332,10 @@ fn setup_of_other_lengths() {
         }
         .gives(6);
     }
+}
+
+#[test]
+fn setup_over_states_of_other_lengths() {
     for asked in [Asked::good(), Asked::with_counts((0, 0, 0))] {
         for length in (0..400).filter(|length| *length != STATE_BYTES) {
             let (mut state, mut buffer) = (vec![0xEE; length], [0xEE; BUFFER_BYTES]);

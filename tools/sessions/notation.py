@@ -82,6 +82,8 @@ def block(items):
             words[places[0]:places[-1] + 1] = [hexadecimal(value, 4)] * len(places)
             continue
         text = text_words(value)
+        if len(places) > 1:
+            raise ValueError("a text has one place, that of its first word")
         if places[0] + len(text) > 256:
             raise ValueError("the text runs past word 255")
         words[places[0]:places[0] + len(text)] = text

@@ -1,4 +1,4 @@
-"""Replies as a program gives them."""
+"""Replies as a program gives them. A program is named by its path, also one without a slash."""
 import os
 import subprocess
 import tempfile
@@ -7,7 +7,7 @@ PATIENCE = 60  # seconds
 
 
 def run_whole(program, recording):
-    done = subprocess.run([program], input=recording, stdout=subprocess.PIPE, timeout=PATIENCE, check=False)
+    done = subprocess.run([os.path.abspath(program)], input=recording, stdout=subprocess.PIPE, timeout=PATIENCE, check=False)
     return done.stdout, done.returncode
 
 
@@ -22,7 +22,7 @@ def wait_or_kill(child):
 def run_in_pieces(program, recording):
     """Writes byte by byte, so that a program which takes one read for the whole input shows it."""
     with tempfile.TemporaryFile() as out:
-        with subprocess.Popen([program], stdin=subprocess.PIPE, stdout=out, bufsize=0) as child:
+        with subprocess.Popen([os.path.abspath(program)], stdin=subprocess.PIPE, stdout=out, bufsize=0) as child:
             try:
                 for place in range(len(recording)):
                     os.write(child.stdin.fileno(), recording[place:place + 1])

@@ -78,7 +78,9 @@ def payloads(action, args):
         return [bytes([form.WRITE_REGISTER, 7, hexadecimal(args[0], 2)]), *RUN_READS]
     if action in ("get-block", "put-block", "put-password"):
         args, part = cut_words(args)
-        if action == "get-block" and not args:
+        if action == "get-block":
+            if args:
+                raise ValueError("the words that get-block reads stand right of the arrow")
             return [PLAIN["word"]] * len(part)
         words = password_block(args) if action == "put-password" else block(args)
         return put(words[part[0]:part[-1] + 1])
@@ -95,8 +97,6 @@ def values_of(action, args, count, right):
     if action not in VALUE_DIGITS:
         raise ValueError(f"{action} gives no such value back")
     values = word_list(right) if action == "word" else [hexadecimal(value, VALUE_DIGITS[action]) for value in right]
-    if action == "word" and len(values) == 1:
-        values *= count
     if len(values) != count:
         raise ValueError(f"{count} values are expected here, {len(values)} stand right of the arrow")
     return values
@@ -122,15 +122,22 @@ def unsaid(session, action, count):
     return [form.DONE] * count
 
 
+def counts_values(action, right):
+    """Whether the count in front says how many words have values of their own, and not how often the line stands."""
+    return action == "word" and bool(right) and right[0] != "answer" and len(word_list(right)) > 1
+
+
 def take_records(session, times, left, right, line):
     action, args = left[0], left[1:]
     sent = payloads(action, args)
-    if action == "word":  # the count is not a repeat here: each word may have a value of its own
+    if counts_values(action, right):
         sent, times = sent * times, 1
     if session.faulted:
         if right is not None:
             raise ValueError("nothing is answered after a fault")
         steps = [None] * len(sent)
+    elif right is not None and form.version_flaw(session.data):
+        raise ValueError("nothing is answered where the version is not 01")
     elif session.raw_line and (session.strict or right is not None):
         session.raw_line = None  # said once is enough
         raise ValueError("raw bytes have to end in '-> fault'")
@@ -142,8 +149,8 @@ def take_records(session, times, left, right, line):
 
 
 def take_version(session, args):
-    if session.lines or session.faulted or session.raw_line or len(args) != 1:
-        raise ValueError("'version none' or 'version XX' stands before every record")
+    if session.data != form.VERSION or session.faulted or session.raw_line or len(args) != 1:
+        raise ValueError("'version none' or 'version XX' stands once, before every record")
     session.data = bytearray() if args[0] == "none" else bytearray([hexadecimal(args[0], 2)])
 
 

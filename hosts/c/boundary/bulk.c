@@ -3,8 +3,6 @@
 
 #include "checks.h"
 
-enum { MOST_BULK = MOST_SECTOR_BYTES + 2 * THINNAROM_SECTOR_BYTES };
-
 enum class {
     REFUSED,
     NO_ROOM,
@@ -109,7 +107,7 @@ static void whole_command(lent *bulk, lent *single, enum kind kind, enum call ca
     random_disk_of(&d, kind, 4, 8, 9);
     memset(d.state + RUN_ADDRESS, 0, 4);
     d.state[RUN_ADDRESS] = 10;
-    d.state[RUN_ADDRESS + 3] = 0x40;
+    d.state[RUN_ADDRESS + 3] = THINNAROM_DEVICE_HEAD_LBA;
     d.state[RUN_AFTER] = 255;
     d.state[PLACE] = 0;
     compare(bulk, single, &d, &r);

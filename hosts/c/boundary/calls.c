@@ -9,8 +9,6 @@ const char *const CALL_NAMES[CALLS] = {"read_register", "write_register", "read_
 
 unsigned long answers_seen[CALLS][ANSWERS];
 
-enum { MOST_BULK = 4 * MOST_SECTOR_BYTES };
-
 lent lent_of(size_t most_sector_bytes, size_t most_bytes, side at) {
     lent l;
     l.state = piece_of(THINNAROM_STATE_BYTES);
@@ -45,6 +43,7 @@ void lend_bytes(lent *l, const uint8_t *bytes, size_t length) {
 #define LENT l->state_told, l->state_length, l->buffer.bytes, l->sectors_told, l->sectors_length
 
 thinnarom_reply call_library(lent *l, const request *r) {
+    uint8_t *bytes = r->length == 0 ? NULL : l->bytes.bytes;
     switch (r->call) {
     case READ_REGISTER:
         return thinnarom_read_register(LENT, r->n);
@@ -55,9 +54,9 @@ thinnarom_reply call_library(lent *l, const request *r) {
     case WRITE_WORD:
         return thinnarom_write_word(LENT, r->word);
     case READ_WORDS:
-        return thinnarom_read_words(LENT, l->bytes.bytes, r->length);
+        return thinnarom_read_words(LENT, bytes, r->length);
     case WRITE_WORDS:
-        return thinnarom_write_words(LENT, l->bytes.bytes, r->length);
+        return thinnarom_write_words(LENT, bytes, r->length);
     case HARDWARE_RESET:
         return thinnarom_hardware_reset(LENT);
     case POWER_ON:

@@ -24,6 +24,9 @@ typedef struct lent {
     size_t state_length, sectors_length;
 } lent;
 
+/* The most bytes that a bulk call is lent: more than a whole disk's. */
+enum { MOST_BULK = MOST_SECTOR_BYTES + 2 * THINNAROM_SECTOR_BYTES };
+
 /* Answers by call, over all that was judged. */
 enum { ANSWERS = 5 };
 extern unsigned long answers_seen[CALLS][ANSWERS];

@@ -10,7 +10,7 @@ unsigned long check_lengths(side at);
 unsigned long check_registers(side at);
 unsigned long check_every_byte(side at);
 unsigned long check_geometries(side at);
-unsigned long check_random_states(side at, unsigned long states);
+unsigned long check_random_states(side at, unsigned long pure); /* as many of pure chance, and others in turn with them */
 unsigned long check_bulk(side at, unsigned long rounds);
 
 /* Prints what the checks reached, and fails where a class was never reached. */

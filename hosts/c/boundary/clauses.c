@@ -48,7 +48,7 @@ static void make_base(disk *d, enum kind kind, int which) {
     s[LOCK] = which == 0 && may_be_locked(kind) ? LOCKED : OPEN;
     if (kind == IDLE) {
         s[HELD] = which == 1;
-        s[DEVICE_HEAD] = which == 2 ? 0x10 : 0x00;
+        s[DEVICE_HEAD] = which == 2 ? THINNAROM_DEVICE_HEAD_DEV : 0x00;
     }
     if (broken_clauses(s) != 0) {
         fail("a base is out of shape");
@@ -78,31 +78,17 @@ unsigned long check_every_byte(side at) {
     return steps;
 }
 
-static void set_geometry(uint8_t *s, uint16_t cylinders, uint8_t heads, uint8_t sectors) {
-    s[CYLINDERS] = (uint8_t)cylinders;
-    s[CYLINDERS + 1] = (uint8_t)(cylinders >> 8);
-    s[HEADS] = heads;
-    s[SECTORS] = sectors;
-}
-
-static void set_translation(uint8_t *s, uint32_t cylinders, uint8_t heads, uint8_t sectors) {
-    s[NOW_CYLINDERS] = (uint8_t)cylinders;
-    s[NOW_CYLINDERS + 1] = (uint8_t)(cylinders >> 8);
-    s[NOW_HEADS] = heads;
-    s[NOW_SECTORS] = sectors;
-}
-
 /* A geometry with a translation that fits it, and ones beside it. The sectors lent are of another length: in shape is 3. */
 static unsigned long one_geometry(lent *l, disk *d, uint16_t cylinders, uint8_t heads, uint8_t sectors) {
     static const uint8_t OTHERS[][2] = {{1, 1}, {16, 63}, {16, 255}, {1, 255}, {16, 1}, {17, 1}, {0, 1}, {1, 0}};
     unsigned long steps = 0;
-    set_geometry(d->state, cylinders, heads, sectors);
+    put_counts(d->state + CYLINDERS, cylinders, heads, sectors);
     uint32_t capacity = capacity_of(d->state);
     for (size_t i = 0; i <= sizeof OTHERS / sizeof OTHERS[0]; i++) {
         uint8_t now_heads = i == 0 ? heads : OTHERS[i - 1][0], now_sectors = i == 0 ? sectors : OTHERS[i - 1][1];
         uint32_t due = cylinders_by_91h(capacity, now_heads, now_sectors);
         for (int off = -1; off <= 1; off++) {
-            set_translation(d->state, due + (uint32_t)off, now_heads, now_sectors);
+            put_counts(d->state + NOW_CYLINDERS, due + (uint32_t)off, now_heads, now_sectors);
             count_clauses(d->state);
             steps += all_calls(l, d);
         }

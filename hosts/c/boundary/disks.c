@@ -29,11 +29,6 @@ void random_bytes(uint8_t *bytes, size_t length) {
     memcpy(bytes, &eight, length);
 }
 
-static void put_two(uint8_t *low_first, uint32_t value) {
-    low_first[0] = (uint8_t)value;
-    low_first[1] = (uint8_t)(value >> 8);
-}
-
 static uint8_t mark(void) {
     return (uint8_t)(chance() & 1);
 }
@@ -48,9 +43,7 @@ static void put_translation(uint8_t *s) {
             sectors = some_sectors;
         }
     }
-    put_two(s + NOW_CYLINDERS, cylinders_by_91h(capacity, heads, sectors));
-    s[NOW_HEADS] = (uint8_t)heads;
-    s[NOW_SECTORS] = (uint8_t)sectors;
+    put_counts(s + NOW_CYLINDERS, cylinders_by_91h(capacity, heads, sectors), (uint8_t)heads, (uint8_t)sectors);
 }
 
 /* The address of some sector, in LBA or in the current translation; bits of Device/Head that say nothing are left to chance. */
@@ -60,11 +53,11 @@ static void put_address(uint8_t *s) {
     if (mark()) {
         uint32_t lba = below(capacity_of(s));
         at[0] = (uint8_t)lba;
-        put_two(at + 1, lba >> 8);
-        at[3] = (uint8_t)(idle_bits | 0x40 | lba >> 24);
+        put_two_bytes(at + 1, lba >> 8);
+        at[3] = (uint8_t)(idle_bits | THINNAROM_DEVICE_HEAD_LBA | lba >> 24);
     } else {
         at[0] = (uint8_t)(1 + below(sectors));
-        put_two(at + 1, cylinder);
+        put_two_bytes(at + 1, cylinder);
         at[3] = (uint8_t)(idle_bits | below(heads));
     }
     s[RUN_AFTER] = (uint8_t)(mark() ? below(4) : below(256));
@@ -118,9 +111,7 @@ void random_disk_of(disk *d, enum kind kind, uint16_t cylinders, uint8_t heads, 
     s[MASKED] = mark();
     s[RAISED] = mark();
     s[FAILED] = mark();
-    put_two(s + CYLINDERS, cylinders);
-    s[HEADS] = heads;
-    s[SECTORS] = sectors;
+    put_counts(s + CYLINDERS, cylinders, heads, sectors);
     put_translation(s);
     put_transfer(s, kind);
     put_lock(s, kind);

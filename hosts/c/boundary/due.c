@@ -1,6 +1,6 @@
 #include "due.h"
 
-enum { DEV = 0x10, NIEN = 0x02, SRST = 0x04, LAST_PLACE = 255 };
+enum { LAST_PLACE = 255 };
 
 static uint32_t answer_due(const lent *l, const request *r) {
     const uint8_t *s = l->state.bytes;
@@ -28,7 +28,7 @@ static uint32_t answer_due(const lent *l, const request *r) {
 }
 
 static uint8_t status_of(const uint8_t *s) {
-    if (s[DEVICE_HEAD] & DEV) {
+    if (s[DEVICE_HEAD] & THINNAROM_DEVICE_HEAD_DEV) {
         return 0x00;
     }
     return s[HELD] ? 0x80 : s[KIND] != IDLE ? 0x58 : s[FAILED] ? 0x51 : 0x50;
@@ -37,14 +37,13 @@ static uint8_t status_of(const uint8_t *s) {
 static void register_read(due *d, const request *r) {
     uint8_t *s = d->state;
     d->value = r->n == THINNAROM_ERROR ? s[ERROR] : r->n < THINNAROM_STATUS ? s[r->n] : status_of(s);
-    if (r->n == THINNAROM_STATUS && !(s[DEVICE_HEAD] & DEV)) {
+    if (r->n == THINNAROM_STATUS && !(s[DEVICE_HEAD] & THINNAROM_DEVICE_HEAD_DEV)) {
         s[RAISED] = 0;
     }
 }
 
 /* What all resets leave alike. */
 static void reset(due *d) {
-    static const uint8_t START[] = {0x01, 0x00, 0x01, 0x01, 0x00, 0x00, 0x00};
     uint8_t *s = d->state;
     memcpy(s, START, sizeof START);
     memset(s + RAISED, 0, CYLINDERS - RAISED);
@@ -65,11 +64,11 @@ static void powered_on(due *d) {
 static void register_written(due *d, const request *r) {
     uint8_t *s = d->state;
     if (r->n == THINNAROM_DEVICE_CONTROL) {
-        if (r->v & SRST) {
+        s[HELD] = (r->v & THINNAROM_DEVICE_CONTROL_SRST) != 0;
+        s[MASKED] = (r->v & THINNAROM_DEVICE_CONTROL_NIEN) != 0;
+        if (s[HELD]) {
             reset(d);
         }
-        s[HELD] = (r->v & SRST) != 0;
-        s[MASKED] = (r->v & NIEN) != 0;
     } else if (r->n == THINNAROM_COMMAND) {
         bool loads = r->v == 0x20 || r->v == 0x21 || r->v == THINNAROM_IDENTIFY_DEVICE;
         d->left_known = false;

@@ -9,7 +9,7 @@
 
 #include "checks.h"
 
-enum { STATES = 1000000, BULK_ROUNDS = 20000 };
+enum { STATES_OF_PURE_CHANCE = 1000000, BULK_ROUNDS = 20000 };
 
 static void report(const char *check, unsigned long steps) {
     printf("boundary: %s: %lu, none amiss\n", check, steps);
@@ -28,7 +28,7 @@ int main(int count, char **words) {
         steps[2] += check_registers(at);
         steps[3] += check_every_byte(at);
         steps[4] += check_geometries(at);
-        steps[5] += check_random_states(at, STATES / 2);
+        steps[5] += check_random_states(at, STATES_OF_PURE_CHANCE / 2);
         steps[6] += check_bulk(at, BULK_ROUNDS / 2);
     }
     report("setups at and beyond every limit", steps[0]);

@@ -1,4 +1,4 @@
-/* States by chance: bytes of pure chance; disks in shape; such disks with one or a few bytes changed, many of which stay in
+/* States by chance: bytes of pure chance; disks in shape; such disks with one to three bytes changed, many of which stay in
  * shape. Each is followed by some calls, and every call is judged. */
 #include <stdio.h>
 
@@ -92,12 +92,14 @@ static void make_state(disk *d, unsigned way) {
     }
 }
 
-unsigned long check_random_states(side at, unsigned long states) {
+unsigned long check_random_states(side at, unsigned long pure) {
+    static const unsigned WAYS_IN_TURN[] = {0, 1, 0, 2, 0, 2, 0};
     static disk d;
     lent l = lent_of(MOST_RANDOM_SECTORS * THINNAROM_SECTOR_BYTES, BULK, at);
     uint8_t before[THINNAROM_STATE_BYTES];
-    for (unsigned long i = 0; i < states; i++) {
-        make_state(&d, (unsigned)(i % 4 < 2 ? i % 4 : 2));
+    unsigned long steps = 0, wanted = states_made[0] + pure;
+    for (size_t turn = 0; states_made[0] < wanted; turn++) {
+        make_state(&d, WAYS_IN_TURN[turn % (sizeof WAYS_IN_TURN / sizeof WAYS_IN_TURN[0])]);
         lend(&l, &d);
         for (int call = 0; call < CALLS_ON_A_STATE; call++) {
             request r = next_request(&l, &d);
@@ -106,8 +108,9 @@ unsigned long check_random_states(side at, unsigned long states) {
                 observe(before, l.state.bytes, &r);
             }
         }
+        steps += CALLS_ON_A_STATE;
     }
-    return CALLS_ON_A_STATE * states;
+    return steps;
 }
 
 static void states_reached(void) {

@@ -17,38 +17,27 @@ static struct {
 static uint8_t identity[THINNAROM_IDENTITY_BYTES], master[THINNAROM_PASSWORD_BYTES];
 static unsigned long made;
 
-static bool printable(const uint8_t *bytes, size_t length) {
-    for (size_t i = 0; i < length; i++) {
-        if (bytes[i] < 0x20 || bytes[i] > 0x7E) {
-            return false;
-        }
-    }
-    return true;
-}
-
 static bool within_limits(const setup *s) {
-    bool counts = s->cylinders >= 1 && s->cylinders <= 1024 && s->heads >= 1 && s->heads <= 16 && s->sectors >= 1 && s->sectors <= 63;
     bool lengths = s->identity_length == THINNAROM_IDENTITY_BYTES && s->master_length == THINNAROM_PASSWORD_BYTES;
-    return counts && lengths && printable(identity, sizeof identity);
+    return lengths && is_geometry(s->cylinders, s->heads, s->sectors) && is_printable(identity, sizeof identity);
 }
 
 static void fresh_state(uint8_t state[THINNAROM_STATE_BYTES], const setup *s) {
-    static const uint8_t START[] = {0x01, 0x00, 0x01, 0x01};
     memset(state, 0, THINNAROM_STATE_BYTES);
     memcpy(state, START, sizeof START);
-    for (int at = CYLINDERS; at <= NOW_CYLINDERS; at += NOW_CYLINDERS - CYLINDERS) {
-        state[at] = (uint8_t)s->cylinders;
-        state[at + 1] = (uint8_t)(s->cylinders >> 8);
-        state[at + 2] = s->heads;
-        state[at + 3] = s->sectors;
-    }
+    put_counts(state + CYLINDERS, s->cylinders, s->heads, s->sectors);
+    put_counts(state + NOW_CYLINDERS, s->cylinders, s->heads, s->sectors);
     state[ATTEMPTS] = 5;
     memcpy(state + IDENTITY, identity, sizeof identity);
     memcpy(state + MASTER, master, sizeof master);
 }
 
-/* Lays as much of the bytes as the told length has room for; a length that no memory has is told of memory that nothing may touch. */
+/* Lays as much of the bytes as the told length has room for; a length that no memory has is told of memory that nothing may touch,
+ * no length at all of no memory. */
 static const uint8_t *lay_told(piece *p, const uint8_t *bytes, size_t right, size_t told) {
+    if (told == 0) {
+        return NULL;
+    }
     if (told > 2 * right) {
         return inaccessible();
     }

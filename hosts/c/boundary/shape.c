@@ -1,6 +1,8 @@
 #include "shape.h"
 
-enum { DEV = 0x10, LBA = 0x40 };
+#include "thinnarom.h"
+
+const uint8_t START[] = {0x01, 0x00, 0x01, 0x01, 0x00, 0x00, 0x00};
 
 const char *const CLAUSE_NAMES[CLAUSES] = {"a mark above 1",
                                            "no such transfer",
@@ -22,6 +24,30 @@ const char *const CLAUSE_NAMES[CLAUSES] = {"a mark above 1",
 
 uint16_t two_bytes(const uint8_t *low_first) {
     return (uint16_t)(low_first[0] | low_first[1] << 8);
+}
+
+void put_two_bytes(uint8_t *low_first, uint32_t value) {
+    low_first[0] = (uint8_t)value;
+    low_first[1] = (uint8_t)(value >> 8);
+}
+
+void put_counts(uint8_t *at, uint32_t cylinders, uint8_t heads, uint8_t sectors) {
+    put_two_bytes(at, cylinders);
+    at[2] = heads;
+    at[3] = sectors;
+}
+
+bool is_geometry(uint16_t cylinders, uint8_t heads, uint8_t sectors) {
+    return cylinders >= 1 && cylinders <= 1024 && heads >= 1 && heads <= 16 && sectors >= 1 && sectors <= 63;
+}
+
+bool is_printable(const uint8_t *bytes, size_t length) {
+    for (size_t i = 0; i < length; i++) {
+        if (bytes[i] < 0x20 || bytes[i] > 0x7E) {
+            return false;
+        }
+    }
+    return true;
 }
 
 uint32_t capacity_of(const uint8_t *state) {
@@ -78,17 +104,11 @@ static bool stray_bytes(const uint8_t *s) {
 }
 
 static bool geometry_outside(const uint8_t *s) {
-    uint16_t cylinders = two_bytes(s + CYLINDERS);
-    return cylinders < 1 || cylinders > 1024 || s[HEADS] < 1 || s[HEADS] > 16 || s[SECTORS] < 1 || s[SECTORS] > 63;
+    return !is_geometry(two_bytes(s + CYLINDERS), s[HEADS], s[SECTORS]);
 }
 
 static bool identity_outside(const uint8_t *s) {
-    for (int i = IDENTITY; i < USER; i++) {
-        if (s[i] < 0x20 || s[i] > 0x7E) {
-            return true;
-        }
-    }
-    return false;
+    return !is_printable(s + IDENTITY, USER - IDENTITY);
 }
 
 static bool translation_not_allowed(const uint8_t *s) {
@@ -110,14 +130,14 @@ static bool address_faults(const uint8_t *s) {
     if (!moves_sectors(s)) {
         return false;
     }
-    if (at[3] & LBA) {
+    if (at[3] & THINNAROM_DEVICE_HEAD_LBA) {
         return (at[0] | cylinder << 8 | nibble << 24) >= capacity_of(s);
     }
     return at[0] == 0 || at[0] > s[NOW_SECTORS] || nibble >= s[NOW_HEADS] || cylinder >= two_bytes(s + NOW_CYLINDERS);
 }
 
 static bool transfer_with_dev(const uint8_t *s) {
-    return transfers(s) && (s[DEVICE_HEAD] & DEV);
+    return transfers(s) && (s[DEVICE_HEAD] & THINNAROM_DEVICE_HEAD_DEV);
 }
 
 static bool transfer_while_held(const uint8_t *s) {
@@ -125,7 +145,7 @@ static bool transfer_while_held(const uint8_t *s) {
 }
 
 static bool dev_while_held(const uint8_t *s) {
-    return !transfers(s) && s[HELD] == 1 && (s[DEVICE_HEAD] & DEV);
+    return !transfers(s) && s[HELD] == 1 && (s[DEVICE_HEAD] & THINNAROM_DEVICE_HEAD_DEV);
 }
 
 static bool transfer_while_locked(const uint8_t *s) {

@@ -73,7 +73,18 @@ extern const char *const CLAUSE_NAMES[CLAUSES];
 /* One bit for each clause that the bytes break; 0 for a state in shape. */
 uint32_t broken_clauses(const uint8_t *state);
 
+/* Registers 1 to 6 and Features, bytes ERROR to DEVICE_HEAD, as setup and all resets leave them. */
+extern const uint8_t START[DEVICE_HEAD + 1];
+
 uint16_t two_bytes(const uint8_t *low_first);
+void put_two_bytes(uint8_t *low_first, uint32_t value);
+
+/* The counts at CYLINDERS or at NOW_CYLINDERS. */
+void put_counts(uint8_t *at, uint32_t cylinders, uint8_t heads, uint8_t sectors);
+
+/* What setup takes, and a state holds. */
+bool is_geometry(uint16_t cylinders, uint8_t heads, uint8_t sectors);
+bool is_printable(const uint8_t *bytes, size_t length);
 
 /* Cylinders x heads x sectors per track of the factory geometry. */
 uint32_t capacity_of(const uint8_t *state);

@@ -29,6 +29,9 @@ pub struct Guest<'a> {
     pub heard: Vec<String>,
     /// How many data words it was given.
     pub words: usize,
+    /// Those of them that are IDENTIFY DEVICE's, and zeros of READ BUFFER; the story counts them.
+    pub identify_words: usize,
+    pub zero_words: usize,
 }
 
 pub fn expect(met: bool, expectation: &str) -> Step {
@@ -45,6 +48,8 @@ impl Guest<'_> {
             disk,
             heard,
             words: 0,
+            identify_words: 0,
+            zero_words: 0,
         }
     }
 
@@ -94,14 +99,15 @@ impl Guest<'_> {
         self.hear(told)
     }
 
-    /// Lays an LBA and a number of sectors into registers 2 to 6.
-    pub fn address(&mut self, lba: u32, count: u8) -> Answer<()> {
+    /// Lays an LBA and a number of sectors into registers 2 to 6, and then gives the command.
+    pub fn command_at(&mut self, code: u8, lba: u32, count: u8) -> Answer<()> {
         let [low, middle, high, highest] = lba.to_le_bytes();
         self.write(Register::SectorCount, count)?;
         self.write(Register::SectorNumber, low)?;
         self.write(Register::CylinderLow, middle)?;
         self.write(Register::CylinderHigh, high)?;
-        self.write(Register::DeviceHead, LBA | highest & 0x0F)
+        self.write(Register::DeviceHead, LBA | highest & 0x0F)?;
+        self.write(Register::Command, code)
     }
 
     /// Sets and clears the software reset; Status while it is held, and after it.

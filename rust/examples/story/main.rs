@@ -21,7 +21,7 @@ const ERASE_UNIT: u8 = 0xF4;
 const DISABLE_PASSWORD: u8 = 0xF6;
 
 const TOKENS: usize = 3;
-const TOKENS_LBA: usize = 16;
+const TOKENS_LBA: u32 = 16;
 const TOKEN_WORDS: usize = TOKENS * BLOCK_WORDS;
 const GUESSES: [&str; 5] = ["password", "12345678", "minibus", "payment", "letmein"];
 
@@ -107,6 +107,12 @@ impl Story {
         self.command_stands(guest, what, wanted)
     }
 
+    /// Asks a locked disk for the tokens, which it refuses.
+    fn ask_for_tokens(self, guest: &mut Guest, what: &str) -> Step {
+        guest.command_at(READ_SECTORS, TOKENS_LBA, TOKENS as u8)?;
+        self.command_stands(guest, what, FAILED)
+    }
+
     fn send_password(
         self,
         guest: &mut Guest,
@@ -128,6 +134,7 @@ impl Story {
         guest.write(Register::Command, IDENTIFY_DEVICE)?;
         let passed = guest.read_words(&mut block)?;
         expect(passed == BLOCK_WORDS, "IDENTIFY DEVICE gives a block")?;
+        guest.identify_words += passed;
         let security = u16::from_le_bytes([block[256], block[257]]);
         self.tell("IDENTIFY DEVICE (ECh)", &words::security(security));
         expect(
@@ -143,6 +150,7 @@ impl Story {
         for _ in 0..BLOCK_WORDS {
             zeros += usize::from(guest.read_word()? == 0);
         }
+        guest.zero_words += zeros;
         let all = zeros == BLOCK_WORDS;
         self.tell(
             what,
@@ -186,8 +194,7 @@ impl Story {
 
     fn provision(self, disk: &mut Disk, of: &Secrets) -> Step {
         let payment = &mut Guest::on(disk);
-        payment.address(TOKENS_LBA as u32, TOKENS as u8)?;
-        payment.write(Register::Command, WRITE_SECTORS)?;
+        payment.command_at(WRITE_SECTORS, TOKENS_LBA, TOKENS as u8)?;
         let passed = payment.write_words(&of.sectors())?;
         expect(passed == TOKEN_WORDS, "the tokens are written")?;
         self.command_stands(
@@ -202,8 +209,7 @@ impl Story {
 
     fn read_tokens(self, payment: &mut Guest, of: &Secrets) -> Step {
         let mut sectors = [0; TOKENS * SECTOR_BYTES];
-        payment.address(TOKENS_LBA as u32, TOKENS as u8)?;
-        payment.write(Register::Command, READ_SECTORS)?;
+        payment.command_at(READ_SECTORS, TOKENS_LBA, TOKENS as u8)?;
         expect(
             payment.line()?,
             "the interrupt line tells that a sector is ready",
@@ -217,10 +223,10 @@ impl Story {
             sectors == of.sectors(),
             "the tokens are those that were written",
         )?;
-        for (number, sector) in sectors.chunks(SECTOR_BYTES).enumerate() {
+        for (lba, sector) in (TOKENS_LBA..).zip(sectors.chunks(SECTOR_BYTES)) {
             let token = String::from_utf8_lossy(sector);
             let token = token.trim_end_matches('\0');
-            self.say(&format!("      LBA {}: {token}", TOKENS_LBA + number));
+            self.say(&format!("      LBA {lba}: {token}"));
         }
         Ok(())
     }
@@ -228,13 +234,7 @@ impl Story {
     fn payment_opens(self, disk: &mut Disk, of: &Secrets) -> Step {
         let payment = &mut Guest::on(disk);
         self.identify(payment, 0x0007)?;
-        payment.address(TOKENS_LBA as u32, TOKENS as u8)?;
-        self.run(
-            payment,
-            READ_SECTORS,
-            "READ SECTORS (20h), before the password",
-            FAILED,
-        )?;
+        self.ask_for_tokens(payment, "READ SECTORS (20h), before the password")?;
         let what = "SECURITY UNLOCK (F2h), payment's password";
         self.send_password(payment, UNLOCK, of.password, what, IDLE)?;
         self.read_tokens(payment, of)
@@ -265,18 +265,8 @@ impl Story {
         self.identify(plugin, 0x0007)
     }
 
-    fn asks_for_tokens(self, plugin: &mut Guest) -> Step {
-        plugin.address(TOKENS_LBA as u32, TOKENS as u8)?;
-        self.run(
-            plugin,
-            READ_SECTORS,
-            "READ SECTORS (20h), LBA 16, 3 sectors",
-            FAILED,
-        )
-    }
-
     fn asks_for_sectors(self, plugin: &mut Guest) -> Step {
-        self.asks_for_tokens(plugin)?;
+        self.ask_for_tokens(plugin, "READ SECTORS (20h), LBA 16, 3 sectors")?;
         self.run(
             plugin,
             READ_VERIFY_SECTORS,
@@ -343,7 +333,7 @@ impl Story {
         );
         self.run(plugin, ERASE_PREPARE, "SECURITY ERASE PREPARE (F3h)", IDLE)?;
         self.run(plugin, ERASE_UNIT, "SECURITY ERASE UNIT (F4h)", FAILED)?;
-        self.asks_for_tokens(plugin)?;
+        self.ask_for_tokens(plugin, "READ SECTORS (20h), LBA 16, 3 sectors")?;
         self.read_buffer(plugin, "READ BUFFER (E4h)")?;
         self.identify(plugin, 0x0017)
     }
@@ -393,13 +383,20 @@ fn plugins_turn(disk: &mut Disk) -> Step {
     story.say("\n4. The plugin's turn; it has no password\n");
     let mut plugin = Guest::on(disk);
     story.plugin_tries_everything(&mut plugin)?;
-    let Guest { heard, words, .. } = plugin;
+    let Guest {
+        heard,
+        words,
+        identify_words,
+        zero_words,
+        ..
+    } = plugin;
     story.say("\n5. What the plugin got, as the host sees it\n");
-    let given = format!("{words}: 3 x 256 of IDENTIFY DEVICE, 5 x 256 zeros of READ BUFFER");
+    let given =
+        format!("{words}: {identify_words} of IDENTIFY DEVICE, {zero_words} zeros of READ BUFFER");
     story.tell("data words that it was given", &given);
     expect(
-        words == 8 * BLOCK_WORDS,
-        "the plugin was given eight blocks",
+        words == identify_words + zero_words,
+        "the plugin was given nothing else",
     )?;
     expect(disk.sectors == before, "the plugin changed no sector")?;
     story.tell("sectors that it changed", "none");
@@ -416,6 +413,12 @@ fn plugins_turn(disk: &mut Disk) -> Step {
     Ok(())
 }
 
+fn holds(bytes: &[u8], text: &str) -> bool {
+    bytes
+        .windows(text.len())
+        .any(|part| part == text.as_bytes())
+}
+
 fn whole_story() -> Step {
     let story = Story::Told;
     story.say(OPENING);
@@ -423,6 +426,10 @@ fn whole_story() -> Step {
     story.provision(disk, &PAYMENT)?;
     story.say("\n2. Payment's turn\n");
     story.payment_opens(disk, &PAYMENT)?;
+    expect(
+        holds(&disk.device.to_bytes(), PAYMENT.tokens[TOKENS - 1]),
+        "the last token stands in the sector buffer",
+    )?;
     story.say("  Payment ends here. The disk is open, and the last token still stands in its sector buffer.\n");
     story.say("3. Before anyone else has a turn, the host switches the disk off and on\n");
     story.power_on(disk, "locked, buffer zeroed, five attempts")?;

@@ -108,33 +108,31 @@ pub trait Single {
     fn single(&mut self, action: &Action) -> Reply;
 }
 
-impl Single for Lent<'_> {
-    fn single(&mut self, action: &Action) -> Reply {
-        match *action {
-            Action::ReadRegister(n) => self.read_register(n),
-            Action::WriteRegister(n, v) => self.write_register(n, v),
-            Action::ReadWord => self.read_word(),
-            Action::WriteWord(w) => self.write_word(w),
-            Action::HardwareReset => self.hardware_reset(),
-            Action::PowerOn => self.power_on(),
-            Action::Line => self.line(),
+/// The call that an action is, on any type that has the calls under these names.
+macro_rules! call {
+    ($disk:ident, $action:ident) => {
+        match *$action {
+            Action::ReadRegister(n) => $disk.read_register(n),
+            Action::WriteRegister(n, v) => $disk.write_register(n, v),
+            Action::ReadWord => $disk.read_word(),
+            Action::WriteWord(w) => $disk.write_word(w),
+            Action::HardwareReset => $disk.hardware_reset(),
+            Action::PowerOn => $disk.power_on(),
+            Action::Line => $disk.line(),
             Action::ReadWords(_) | Action::WriteWords(_) => unreachable!("bulk"),
         }
+    };
+}
+
+impl Single for Lent<'_> {
+    fn single(&mut self, action: &Action) -> Reply {
+        call!(self, action)
     }
 }
 
 impl Single for second::Device {
     fn single(&mut self, action: &Action) -> Reply {
-        let answer: SecondAnswer = match *action {
-            Action::ReadRegister(n) => self.read_register(n),
-            Action::WriteRegister(n, v) => self.write_register(n, v),
-            Action::ReadWord => self.read_word(),
-            Action::WriteWord(w) => self.write_word(w),
-            Action::HardwareReset => self.hardware_reset(),
-            Action::PowerOn => self.power_on(),
-            Action::Line => self.line(),
-            Action::ReadWords(_) | Action::WriteWords(_) => unreachable!("bulk"),
-        };
+        let answer: SecondAnswer = call!(self, action);
         Reply {
             answer: answer.number().into(),
             value: answer.value().into(),

@@ -243,7 +243,7 @@ impl Guest {
         let [sector, low, high, head] = if lba {
             by_lba(number)
         } else {
-            self.by_chs(number, current)
+            self.aim_by_chs(number, current)
         };
         let count = match self.random.below(8) {
             0..=3 => self.random.between(1, 4) as u8,
@@ -257,20 +257,17 @@ impl Guest {
         }
     }
 
-    /// Some fault of CHS for every third number that names no sector.
-    fn by_chs(&mut self, number: u32, of: Counts) -> [u8; 4] {
-        let track = number / of.sectors;
-        let (mut s, mut h, mut c) = (number % of.sectors + 1, track % of.heads, track / of.heads);
-        if number >= of.product() {
-            match self.random.below(6) {
-                0 => (s, h, c) = (0, 0, 0),
-                1 => (s, h, c) = (of.sectors + 1, 0, 0),
-                2 => (s, h, c) = (1, of.heads, 0),
-                _ => {}
-            }
+    /// A sector or a head that is not there for half of the numbers that name no sector.
+    fn aim_by_chs(&mut self, number: u32, of: Counts) -> [u8; 4] {
+        if number < of.product() {
+            return by_chs(number, of);
         }
-        let [low, high] = (c as u16).to_le_bytes();
-        [s as u8, low, high, h as u8 & 0x0F]
+        match self.random.below(6) {
+            0 => [0; 4],
+            1 => [(of.sectors + 1) as u8, 0, 0, 0],
+            2 => [1, 0, 0, of.heads as u8 & 0x0F],
+            _ => by_chs(number, of),
+        }
     }
 
     fn move_sectors(&mut self) {
@@ -459,6 +456,12 @@ impl Guest {
         self.look();
     }
 
+    fn send_a_guess(&mut self, code: u8, master: bool) {
+        let guess = self.guess(master);
+        let block = self.block(master, false, &guess);
+        self.password_command(code, &block);
+    }
+
     /// What a block is about to be judged by.
     fn judged(&self, code: u8, block: &[u8]) -> String {
         let state = self.rig.state();
@@ -506,9 +509,7 @@ impl Guest {
         }
         for _ in 0..self.random.between(1, 7) {
             let master = self.random.one_in(3);
-            let guess = self.guess(master);
-            let block = self.block(master, false, &guess);
-            self.password_command(0xF2, &block);
+            self.send_a_guess(0xF2, master);
             match self.random.below(6) {
                 0 => self.reset_software(),
                 1 => self.use_buffer(),
@@ -528,9 +529,7 @@ impl Guest {
             self.use_buffer();
         }
         let master = self.random.one_in(2);
-        let guess = self.guess(master);
-        let block = self.block(master, false, &guess);
-        self.password_command(0xF4, &block);
+        self.send_a_guess(0xF4, master);
     }
 
     fn disable(&mut self) {
@@ -538,9 +537,7 @@ impl Guest {
             self.open();
         }
         let master = self.random.one_in(2);
-        let guess = self.guess(master);
-        let block = self.block(master, false, &guess);
-        self.password_command(0xF6, &block);
+        self.send_a_guess(0xF6, master);
     }
 
     /// Frozen the disk stays until a reset, so what runs then has to run here.
@@ -556,11 +553,6 @@ impl Guest {
             }
         }
     }
-}
-
-fn by_lba(number: u32) -> [u8; 4] {
-    let [lowest, low, high, highest] = number.to_le_bytes();
-    [lowest, low, high, LBA | highest & 0x0F]
 }
 
 /// States that sessions on a small disk come to, one for each transfer and lock state that go

@@ -81,37 +81,28 @@ fn begin(state: &mut State, kind: u8, random: &mut Random) {
 
 /// Any sector, the last one often.
 fn stand_on_a_sector(state: &mut State, random: &mut Random) {
-    let by_lba = random.one_in(2);
-    let counts = if by_lba { GEOMETRY } else { TRANSLATION };
-    let last = Counts::of(state, counts).product() - 1;
+    let lba = random.one_in(2);
+    let counts = Counts::of(state, if lba { GEOMETRY } else { TRANSLATION });
+    let last = counts.product() - 1;
     let number = match random.one_in(2) {
         true => last,
         false => random.below(last as usize + 1) as u32,
     };
-    put_current(state, number, by_lba, random);
+    let registers = match lba {
+        true => by_lba(number),
+        false => by_chs(number, counts),
+    };
+    put_current(state, registers, random);
     state[AFTER] = match random.one_in(2) {
         true => 255,
         false => random.byte(),
     };
 }
 
-/// The registers of a sector by its number, the spare bits of Device/Head drawn.
-fn put_current(state: &mut State, number: u32, by_lba: bool, random: &mut Random) {
-    let (mode, [sector, low, high, head]) = match by_lba {
-        true => (LBA, number.to_le_bytes()),
-        false => {
-            let translation = Counts::of(state, TRANSLATION);
-            let track = number / translation.sectors;
-            let [low, high] = ((track / translation.heads) as u16).to_le_bytes();
-            let sector = number % translation.sectors + 1;
-            (
-                0,
-                [sector as u8, low, high, (track % translation.heads) as u8],
-            )
-        }
-    };
-    let spare = random.byte() & 0xB0;
-    state[CURRENT].copy_from_slice(&[sector, low, high, head & 0x0F | mode | spare]);
+/// The current sector's registers, the spare bits of Device/Head drawn.
+fn put_current(state: &mut State, registers: [u8; 4], random: &mut Random) {
+    state[CURRENT].copy_from_slice(&registers);
+    state[CURRENT.end - 1] |= random.byte() & 0xB0;
 }
 
 fn make_the_lock_fit(state: &mut State) {
@@ -218,11 +209,12 @@ fn break_address(state: &mut State, random: &mut Random) {
     let translation = Counts::of(state, TRANSLATION);
     if random.one_in(2) {
         let end = Counts::of(state, GEOMETRY).product();
-        put_current(state, end + random.pick(&[0, 1, 1 << 24]), true, random);
+        let past = end + random.pick(&[0, 1, 1 << 24]);
+        put_current(state, by_lba(past), random);
         return;
     }
-    put_current(state, 0, false, random);
-    let [sector, low, high, device_head] = [12, 13, 14, 15];
+    put_current(state, by_chs(0, translation), random);
+    let [sector, low, high, device_head] = [0, 1, 2, 3].map(|place| CURRENT.start + place);
     match random.below(4) {
         0 => state[sector] = 0,
         1 => state[sector] = (translation.sectors + 1) as u8,

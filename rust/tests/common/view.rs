@@ -85,6 +85,24 @@ impl Counts {
     }
 }
 
+/// Registers 3 to 6 of a sector by its number, in LBA.
+pub fn by_lba(number: u32) -> [u8; 4] {
+    let [lowest, low, high, highest] = number.to_le_bytes();
+    [lowest, low, high, LBA | highest & 0x0F]
+}
+
+/// The same in CHS.
+pub fn by_chs(number: u32, of: Counts) -> [u8; 4] {
+    let track = number / of.sectors;
+    let [low, high] = ((track / of.heads) as u16).to_le_bytes();
+    [
+        (number % of.sectors + 1) as u8,
+        low,
+        high,
+        (track % of.heads) as u8,
+    ]
+}
+
 pub fn capacity(state: &State) -> usize {
     Counts::of(state, GEOMETRY).product() as usize
 }
