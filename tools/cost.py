@@ -28,11 +28,14 @@ LABELS = {
     "words-read": "256 words read in 256 calls",
     "bulk-write": "256 words written in one call",
     "words-write": "256 words written in 256 calls",
-    "nothing": "a call with room for no word: call and shape test alone",
+    "one-read": "one word read by the call for many",
+    "one-write": "one word written by the call for many",
+    "nothing": "that call with room for no word",
     "memcpy": "memcpy of 512 bytes",
 }
-SINGLE_ACTIONS = list(LABELS)[:7]
-BLOCKS = ["bulk-read", "bulk-write"]
+SINGLE_ACTIONS = list(LABELS)[:6]
+# Each block, and the same call with one word: what the call costs beside the copy.
+BLOCKS = {"bulk-read": "one-read", "bulk-write": "one-write"}
 SINGLE_TARGET = 100
 BLOCK_TARGET = 1.5
 COUNTED_ROUNDS = 50
@@ -83,15 +86,15 @@ def measure(arguments):
     return times, [{kind: instructions(p, kind, arguments.folder) for kind in own} for p, own in zip(programs, times)]
 
 
-def yardstick(times):
-    """What a block is measured by: one copy of it and the cost of a call."""
-    return times["memcpy"] + times["register-read"]
+def in_yardsticks(block, times, call):
+    """A block's time in times of one copy of it and that call together."""
+    return times[block] / (times["memcpy"] + times[call])
 
 
 def target_of(kind, times):
     if kind in SINGLE_ACTIONS:
         return f"{SINGLE_TARGET}"
-    return f"{BLOCK_TARGET * yardstick(times):.0f}" if kind in BLOCKS else ""
+    return f"{BLOCK_TARGET * (times['memcpy'] + times[BLOCKS[kind]]):.0f}" if kind in BLOCKS else ""
 
 
 def table_lines(times, counts):
@@ -105,11 +108,12 @@ def table_lines(times, counts):
 
 def table_text(arguments, times, counts):
     heads = ["action", "library ns", "second ns", "target ns", "library instr.", "second instr."]
-    ratios = [times[0][kind] / yardstick(times[0]) for kind in BLOCKS]
+    ratios = [in_yardsticks(block, times[0], call) for block, call in BLOCKS.items()]
+    by_register = [in_yardsticks(block, times[0], "register-read") for block in BLOCKS]
     return "\n".join([
         f"Medians of {arguments.runs} runs of each program, taking turns; each run gives the median of 1,001 rounds in which the kinds take "
-        f"turns. A block in one call takes {ratios[0]:.2f} (read) and {ratios[1]:.2f} (written) of memcpy and a register read together; "
-        f"target {BLOCK_TARGET}.",
+        f"turns. A block in one call takes {ratios[0]:.2f} (read) and {ratios[1]:.2f} (written) of memcpy and the same call with one word "
+        f"together, target {BLOCK_TARGET}; and {by_register[0]:.2f} and {by_register[1]:.2f} of memcpy and a register read.",
         "",
         *table_head(heads),
         *table_lines(times, counts),
@@ -122,10 +126,10 @@ def missed_targets(times):
     for kind in SINGLE_ACTIONS:
         if times[kind] >= SINGLE_TARGET:
             yield f"{LABELS[kind]}: {times[kind]:.1f} ns, target under {SINGLE_TARGET}"
-    for kind in BLOCKS:
-        ratio = times[kind] / yardstick(times)
+    for block, call in BLOCKS.items():
+        ratio = in_yardsticks(block, times, call)
         if ratio > BLOCK_TARGET:
-            yield f"{LABELS[kind]}: {ratio:.2f} of memcpy and a register read, target {BLOCK_TARGET}"
+            yield f"{LABELS[block]}: {ratio:.2f} of memcpy and the same call with one word, target {BLOCK_TARGET}"
 
 
 def main():

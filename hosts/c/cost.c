@@ -133,6 +133,18 @@ static void batch_bulk_write(void) {
     }
 }
 
+static void batch_one_read(void) {
+    for (int i = 0; i < WORDS_BEFORE_THE_LAST; i++) {
+        amiss |= thinnarom_disk_read_words(&disk, out, 2).answer;
+    }
+}
+
+static void batch_one_written(void) {
+    for (int i = 0; i < WORDS_BEFORE_THE_LAST; i++) {
+        amiss |= thinnarom_disk_write_words(&disk, out, 2).answer;
+    }
+}
+
 static void batch_nothing(void) {
     for (int i = 0; i < SECTORS; i++) {
         amiss |= thinnarom_disk_read_words(&disk, out, 0).answer;
@@ -163,6 +175,8 @@ static const row ROWS[] = {{"register-read", idle, batch_register_read, SECTORS}
                            {"words-write", writing, batch_words_write, BLOCKS},
                            {"bulk-read", reading, batch_bulk_read, SECTORS - 1},
                            {"bulk-write", writing, batch_bulk_write, SECTORS - 1},
+                           {"one-read", reading, batch_one_read, WORDS_BEFORE_THE_LAST},
+                           {"one-write", writing, batch_one_written, WORDS_BEFORE_THE_LAST},
                            {"nothing", idle, batch_nothing, SECTORS},
                            {"memcpy", idle, batch_memcpy, SECTORS}};
 enum { ROW_COUNT = sizeof ROWS / sizeof ROWS[0] };
