@@ -15,7 +15,7 @@ use Rattle.device.specs.Alone.{aloneOf}
 use Rattle.laws.proofs.Endings.{Bytes}
 use Rattle.layout.specs.Stored.{hotStored, settledStored, secretsStored, deviceStored}
 use Rattle.layout.specs.Bytes.{hotBytes}
-use Rattle.lent.specs.Lent.{hostReply, Admitted, admissionOf}
+use Rattle.lent.specs.Lent.{hostReply, Lent, leftAlone, Admitted, admissionOf}
 use Rattle.lent.specs.declared.Reply.{Reply}
 use Rattle.lent.proofs.Lending.{LowBytes, isRefusal, hot-put}
 use Rattle.words.specs.Words.{Handed, readWordsOf, wordsIn}
@@ -70,21 +70,26 @@ pub reads-let-in : (b x m out : List ℕ) (r : Reply) (b' x' out' : List ℕ) �
     → ReadsLent (readLent b x m (length out / 2)) (wordsLent b x m (length out / 2)) out r b' x' m out'
 reads-let-in b x m out r b' x' out' e k = rw e k
 
--- turned away
+-- turned away, a call leaves everything
+pub away-left : (b x m : List ℕ) (l : Lent) (w : Answer) → isRefusal w ≡ true → letIn b x m l w ≡ leftAlone b x m w
+away-left b x m l Done f = absurd (false≢true f)
+away-left b x m l NoRegister f = refl
+away-left b x m l OutOfShape f = refl
+away-left b x m l WrongLength f = refl
+away-left b x m l NoTransfer f = refl
+away-left b x m l SetupRefused f = refl
+
+no-words : (ws : List ℕ) (w : Answer) → isRefusal w ≡ true → wordsLetIn ws w ≡ []
+no-words ws Done f = absurd (false≢true f)
+no-words ws NoRegister f = refl
+no-words ws OutOfShape f = refl
+no-words ws WrongLength f = refl
+no-words ws NoTransfer f = refl
+no-words ws SetupRefused f = refl
+
 pub reads-away : (b x m out : List ℕ) (w : Answer) (r : Reply) → w ≡ admissionOf b m → isRefusal w ≡ true → r ≡ hostReply (numberOf w) 0
     → ReadsLent (readLent b x m (length out / 2)) (wordsLent b x m (length out / 2)) out r b x m out
 unfolding wordsIn
-reads-away b x m out w r e f g = rw (sym e) (go w f g)
-  where
-    away : (v : Answer) → r ≡ hostReply (numberOf v) 0
-        → ReadsLent (record { reply = hostReply (numberOf v) 0; state = b; buffer = x; sectors = m }) [] out r b x m out
-    away v k = record { gives = record { reply = k; state = refl; buffer = refl; sectors = refl }; words = refl; long = refl; behind = refl }
-
-    go : (v : Answer) → isRefusal v ≡ true → r ≡ hostReply (numberOf v) 0
-        → ReadsLent (letIn b x m (readsAdmitted b x m (length out / 2)) v) (wordsLetIn (wordsAdmitted b x m (length out / 2)) v) out r b x m out
-    go Done q k = absurd (false≢true q)
-    go NoRegister q k = away NoRegister k
-    go OutOfShape q k = away OutOfShape k
-    go WrongLength q k = away WrongLength k
-    go NoTransfer q k = away NoTransfer k
-    go SetupRefused q k = away SetupRefused k
+reads-away b x m out w r e f g =
+    rw (sym e, away-left b x m (readsAdmitted b x m (length out / 2)) w f, no-words (wordsAdmitted b x m (length out / 2)) w f)
+    (record { gives = record { reply = g; state = refl; buffer = refl; sectors = refl }; words = refl; long = refl; behind = refl })

@@ -8,14 +8,12 @@ use native.Mathlib.Omega.{arith}
 use borrow.Author.Tests.{eq-eqb, ne-eqb}
 use lib.ListN.{length, getD, take, drop}
 use lib.Seq.{sets}
-use Rattle.base.proofs.Tests.{false≢true}
 use Rattle.block.specs.Words.{wordAt}
 use Rattle.transfers.specs.Sectors.{Memory}
 use Rattle.settled.specs.declared.Settled.{Settled}
 use Rattle.face.specs.Reads.{numberOf}
 use Rattle.face.specs.declared.Hot.{Hot}
 use Rattle.face.specs.declared.Answer.{Answer}
-use Rattle.face.specs.declared.Answer.the-variants.{Done, NoRegister, OutOfShape, WrongLength, NoTransfer, SetupRefused}
 use Rattle.face.specs.declared.Action.the-variants.{WriteWord}
 use Rattle.device.specs.Alone.{aloneOf}
 use Rattle.device.specs.Host.{stepOf}
@@ -33,8 +31,9 @@ use Rattle.words.specs.Bulk.{deviceWith, Writes}
 use Rattle.words.specs.declared.Passed.{Passed}
 use Rattle.words.proofs.Bytes.{words-length}
 use Rattle.words.proofs.Callers.{takesOne, writes-behind, writes-all, writes-next, ready-writes}
-use Rattle.bulk.specs.Bulk.{countedReply, letIn, writesAdmitted, writeLent, lastStep, LastWord}
+use Rattle.bulk.specs.Bulk.{countedReply, writesAdmitted, writeLent, lastStep, LastWord}
 use Rattle.bulk.proofs.Few.{few-taken}
+use Rattle.bulk.proofs.Reading.{away-left}
 
 -- the device of these parts, its action, and its bytes
 pub last-gives : (b x : List ℕ) (h : Hot) (s : Settled) (w : ℕ) (m : List ℕ) (user master : List ℕ) (o : Outcome) (b' x' m' : List ℕ)
@@ -124,18 +123,8 @@ refused-gives b x m bytes h s p y m₁ w n r b' x' m' a eh es k less ew g en er 
 -- turned away before any word
 pub writes-away : (b x m bytes : List ℕ) (w : Answer) (r : Reply) → w ≡ admissionOf b m → isRefusal w ≡ true → r ≡ hostReply (numberOf w) 0
     → GivesBack (writeLent b x m (wordsIn bytes)) r b x m
-writes-away b x m bytes w r e f g = rw (sym e) (go w f g)
-  where
-    away : (v : Answer) → r ≡ hostReply (numberOf v) 0 → GivesBack (record { reply = hostReply (numberOf v) 0; state = b; buffer = x; sectors = m }) r b x m
-    away v k = record { reply = k; state = refl; buffer = refl; sectors = refl }
-
-    go : (v : Answer) → isRefusal v ≡ true → r ≡ hostReply (numberOf v) 0 → GivesBack (letIn b x m (writesAdmitted b x m (wordsIn bytes)) v) r b x m
-    go Done q k = absurd (false≢true q)
-    go NoRegister q k = away NoRegister k
-    go OutOfShape q k = away OutOfShape k
-    go WrongLength q k = away WrongLength k
-    go NoTransfer q k = away NoTransfer k
-    go SetupRefused q k = away SetupRefused k
+writes-away b x m bytes w r e f g =
+    rw (sym e, away-left b x m (writesAdmitted b x m (wordsIn bytes)) w f) (record { reply = g; state = refl; buffer = refl; sectors = refl })
 
 -- how many words pass in all
 pub few-written : (b x m bytes : List ℕ) (h : Hot) (s : Settled) (p : Passed) (y m₁ : List ℕ) → h ≡ hotStored b → s ≡ settledStored b

@@ -61,7 +61,7 @@ write-answer f m n v = pick-both P (within 1 6 n) _ _ (inl refl) (pick-both P (e
     P : Told → Type 0
     P t = (t .answer ≡ Done) ⊎ (t ≡ told f NoRegister 0)
 
-read-word-answer : (f : Face) (m : List ℕ) (t : Transfer) → (readWordAs f m t .answer ≡ Done) ⊎ (readWordAs f m t ≡ noTransfer f)
+pub read-word-answer : (f : Face) (m : List ℕ) (t : Transfer) → (readWordAs f m t .answer ≡ Done) ⊎ (readWordAs f m t ≡ noTransfer f)
 read-word-answer f m Idle = inr refl
 read-word-answer f m (Reading r) = inl refl
 read-word-answer f m (Writing r) = inr refl
@@ -69,7 +69,7 @@ read-word-answer f m (ReadingBuffer n) = inl refl
 read-word-answer f m (WritingBuffer n) = inr refl
 read-word-answer f m (TakingPassword b) = inr refl
 
-write-word-answer : (f : Face) (x : Secrets) (m : List ℕ) (w : ℕ) (t : Transfer) → (writeWordAs f x m w t .acted .answer ≡ Done) ⊎ (writeWordAs f x m w t ≡ wordRefused f x m)
+pub write-word-answer : (f : Face) (x : Secrets) (m : List ℕ) (w : ℕ) (t : Transfer) → (writeWordAs f x m w t .acted .answer ≡ Done) ⊎ (writeWordAs f x m w t ≡ wordRefused f x m)
 unfolding passwordWord passwordLast
 write-word-answer f x m w Idle = inr refl
 write-word-answer f x m w (Reading r) = inr refl
