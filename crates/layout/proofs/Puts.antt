@@ -54,10 +54,7 @@ put-all b h n s f m u p lb lh ln ls lf lm lu lp =
     let t6 : take 131 b6 ≡ h ++ n ++ s ++ f ++ m ++ u = put-next b5 (h ++ n ++ s ++ f ++ m) u 99 32 lu (omega (arith, l5)) t5 in
     let t7 : take 163 b7 ≡ h ++ n ++ s ++ f ++ m ++ u ++ p = put-next b6 (h ++ n ++ s ++ f ++ m ++ u) p 131 32 lp (omega (arith, l6)) t6 in
     let w : take 163 b7 ≡ b7 = take-all 163 b7 (omega (arith, l7)) in
-    sym w ∙ t7 ∙ right-nested h n s f m u p
-  where
-    right-nested : (h n s f m u p : List ℕ) → h ++ n ++ s ++ f ++ m ++ u ++ p ≡ h ++ (n ++ ((s ++ (f ++ m)) ++ (u ++ p)))
-    right-nested h n s f m u p = simp append-assoc
+    sym w ∙ t7 ∙ simp append-assoc
 
 pub hot-bytes-long : (h : Hot) → length (hotBytes h) ≡ 18
 hot-bytes-long h = long (h .transfer)
