@@ -1,5 +1,5 @@
 -- What a test that the code made tells of a choice in a definition, and what a choice or a test of limits that came out true tells back.
-use mathlib.Core.Bool.{Bool, true, false}
+use mathlib.Core.Bool.{Bool, true, false, _&&_}
 use mathlib.Core.Path.{_≡_, refl, sym, _∙_}
 use Prim.Native.Nat.{ℕ, _≤_}
 use native.Mathlib.Omega.{arith}
@@ -49,6 +49,16 @@ false≢true q = zero≢one (cc)
 pub both-true : (a b : Bool) → pick a b false ≡ true → (a ≡ true) × (b ≡ true)
 both-true true b e = (refl, e)
 both-true false b e = absurd (false≢true e)
+
+-- one test behind another is both at once
+pub pick-and : (a b c : Bool) → pick a (pick b c false) false ≡ pick (a && b) c false
+pick-and true b c = refl
+pick-and false b c = refl
+
+-- a choice of true against false is its test
+pub pick-test : (b : Bool) → pick b true false ≡ b
+pick-test true = refl
+pick-test false = refl
 
 -- x within limits is neither below the low nor above the high one
 pub within-low : (low high x : ℕ) → within low high x ≡ true → low ≤ x

@@ -10,7 +10,7 @@ use lib.Dec.{eqb}
 use lib.ListN.{length, getD, drop, drop-of-length-le}
 use lib.Seq.{drop-cons}
 use Rattle.base.specs.Choice.{pick}
-use Rattle.base.proofs.Tests.{both-true, false≢true}
+use Rattle.base.proofs.Tests.{false≢true, both-true, pick-and, pick-test}
 use Rattle.block.specs.Passwords.{same}
 
 -- equal lists are the same
@@ -49,11 +49,6 @@ same-step : (p q : List ℕ) (i : ℕ) → i < length p → i < length q
 unfolding same
 same-step p q i hp hq = rw (drop-cons p i 0 hp, drop-cons q i 0 hq, add-one i)
 
--- one more byte agrees or not
-next-byte : (a b c : Bool) → pick a (pick b c false) false ≡ pick (a && b) c false
-next-byte true b c = refl
-next-byte false b c = refl
-
 pub compared-more : {n : ℕ} {p q : List ℕ} {equal : Bool} {i : ℕ} → Compared n p q equal i → i < n
     → Compared n p q (equal && eqb (getD p i 0) (getD q i 0)) (i + 1)
 compared-more {n} {p} {q} {equal} {i} c h =
@@ -63,7 +58,7 @@ compared-more {n} {p} {q} {equal} {i} c h =
       second-long = c .second-long;
       is = c .is
           ∙ ap (λ (b : Bool). pick equal b false) (same-step p q i (omega (arith, c .first-long)) (omega (arith, c .second-long)))
-          ∙ next-byte equal (eqb (getD p i 0) (getD q i 0)) (same (drop (i + 1) p) (drop (i + 1) q));
+          ∙ pick-and equal (eqb (getD p i 0) (getD q i 0)) (same (drop (i + 1) p) (drop (i + 1) q));
     }
 
 pub compared-done : {n : ℕ} {p q : List ℕ} {equal : Bool} {i : ℕ} → Compared n p q equal i → n ≤ i → equal ≡ same p q
@@ -71,8 +66,4 @@ unfolding same
 compared-done {n} {p} {q} {equal} {i} c h =
     let lp : length p ≤ i = omega (arith, c .first-long) in
     let lq : length q ≤ i = omega (arith, c .second-long) in
-    sym (c .is ∙ rw (drop-of-length-le p lp, drop-of-length-le q lq) (all equal))
-  where
-    all : (b : Bool) → pick b true false ≡ b
-    all true = refl
-    all false = refl
+    sym (c .is ∙ rw (drop-of-length-le p lp, drop-of-length-le q lq) (pick-test equal))

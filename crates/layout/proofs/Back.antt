@@ -25,8 +25,7 @@ part-bytes b (suc n) i h =
     ap (take (suc n)) (drop-cons b i 0 p) ∙ ap (λ (l : List ℕ). getD b i 0 ∷ l) (part-bytes b n (suc i) q)
 
 and-true : (a b : Bool) → (a && b) ≡ true → (a ≡ true) × (b ≡ true)
-and-true true true e = (refl, refl)
-and-true true false e = absurd (false≢true e)
+and-true true b e = (refl, e)
 and-true false b e = absurd (false≢true e)
 
 all-three : (a b c : Bool) → (a && b && c) ≡ true → (a ≡ true) × ((b ≡ true) × (c ≡ true))

@@ -2,10 +2,10 @@
 use Prim.Native.Nat.{ℕ, _+_, _*_, _/_, _%_}
 use mathlib.Core.Bool.{Bool, true, false}
 use mathlib.Core.Path.{_≡_, refl, ap, _∙_}
-use mathlib.Core.List.{List, _++_, append-assoc}
+use mathlib.Core.List.{List, [], _++_, append-assoc, append-nil}
 use native.Mathlib.Omega.{arith}
 use lib.ListN.{length, take, drop, replicate, length-append}
-use lib.Seq.{take-at, drop-at, take-all}
+use lib.Seq.{take-at, drop-at}
 use Rattle.lock.specs.declared.Lock.{Lock}
 use Rattle.lock.specs.declared.Lock.the-variants.{Open, Locked, Frozen}
 use Rattle.lock.specs.declared.Purpose.{Purpose}
@@ -16,7 +16,7 @@ use Rattle.face.specs.declared.Transfer.{Transfer}
 use Rattle.face.specs.declared.Transfer.the-variants.{Idle, Reading, Writing, ReadingBuffer, WritingBuffer, TakingPassword}
 use Rattle.face.specs.declared.Hot.{Hot}
 use Rattle.device.specs.declared.Device.{Device}
-use Rattle.layout.specs.Stored.{markStored, transferStored, hotStored, lockStored, settledStored, secretsStored, deviceStored}
+use Rattle.layout.specs.Stored.{markStored, blockOf, transferStored, hotStored, lockStored, settledStored, secretsStored, deviceStored}
 use Rattle.layout.specs.Bytes.{markByte, hotBytes, lockByte, restBytes, stateOf}
 
 -- the arrays of a device have the lengths of their types
@@ -58,26 +58,23 @@ hot-forth h l = go (h .transfer)
     go (WritingBuffer n) = marks (WritingBuffer n)
     go (TakingPassword b) = for (b .purpose)
       where
-        for : (p : Purpose) → hotStored (hotBytes (with-transfer (TakingPassword (record { purpose = p; word = b .word }))) ++ l) ≡ with-transfer (TakingPassword (record { purpose = p; word = b .word }))
-        for Set = marks (TakingPassword (record { purpose = Set; word = b .word }))
-        for Unlock = marks (TakingPassword (record { purpose = Unlock; word = b .word }))
-        for Erase = marks (TakingPassword (record { purpose = Erase; word = b .word }))
-        for Disable = marks (TakingPassword (record { purpose = Disable; word = b .word }))
+        for : (p : Purpose) → hotStored (hotBytes (with-transfer (TakingPassword (blockOf p (b .word)))) ++ l) ≡ with-transfer (TakingPassword (blockOf p (b .word)))
+        for Set = marks (TakingPassword (blockOf Set (b .word)))
+        for Unlock = marks (TakingPassword (blockOf Unlock (b .word)))
+        for Erase = marks (TakingPassword (blockOf Erase (b .word)))
+        for Disable = marks (TakingPassword (blockOf Disable (b .word)))
 
--- five pieces, one behind the other, each found at its place
+-- a piece is found at its place
 piece : (p l q : List ℕ) (i n : ℕ) → length p ≡ i → length q ≡ n → (t : List ℕ) → l ≡ p ++ (q ++ t) → take n (drop i l) ≡ q
 piece p l q i n hp hq t e = ap (λ (z : List ℕ). take n (drop i z)) e ∙ ap (take n) (drop-at p (q ++ t) i hp) ∙ take-at q t n hq
 
-last-piece : (p l q : List ℕ) (i n : ℕ) → length p ≡ i → length q ≡ n → l ≡ p ++ q → take n (drop i l) ≡ q
-last-piece p l q i n hp hq e = ap (λ (z : List ℕ). take n (drop i z)) e ∙ ap (take n) (drop-at p q i hp) ∙ take-all n q (omega (arith, hq))
-
 -- the arrays behind the numbers
-pub record Pieces (l s f m u p : List ℕ) : Type 0 where
-  pub serial : take 20 (drop 0 l) ≡ s
-  pub firmware : take 8 (drop 20 l) ≡ f
-  pub model : take 40 (drop 28 l) ≡ m
-  pub user : take 32 (drop 68 l) ≡ u
-  pub master : take 32 (drop 100 l) ≡ p
+record Pieces (l s f m u p : List ℕ) : Type 0 where
+  serial : take 20 (drop 0 l) ≡ s
+  firmware : take 8 (drop 20 l) ≡ f
+  model : take 40 (drop 28 l) ≡ m
+  user : take 32 (drop 68 l) ≡ u
+  master : take 32 (drop 100 l) ≡ p
 
 pieces : (s f m u p : List ℕ) → length s ≡ 20 → length f ≡ 8 → length m ≡ 40 → length u ≡ 32 → length p ≡ 32
     → Pieces ((s ++ (f ++ m)) ++ (u ++ p)) s f m u p
@@ -87,11 +84,11 @@ pieces s f m u p ls lf lm lu lp =
     let k3 : length (s ++ f ++ m) ≡ 68 = length-append (s ++ f) m ∙ omega (arith, k2, lm) in
     let k4 : length (s ++ f ++ m ++ u) ≡ 100 = length-append (s ++ f ++ m) u ∙ omega (arith, k3, lu) in
     record {
-      serial = ap (take 20) (append-assoc s (f ++ m) (u ++ p)) ∙ take-at s ((f ++ m) ++ (u ++ p)) 20 ls;
+      serial = piece [] l s 0 20 refl ls ((f ++ m) ++ (u ++ p)) (append-assoc s (f ++ m) (u ++ p));
       firmware = piece s l f 20 8 ls lf (m ++ (u ++ p)) (simp append-assoc);
       model = piece (s ++ f) l m 28 40 k2 lm (u ++ p) (simp append-assoc);
       user = piece (s ++ f ++ m) l u 68 32 k3 lu p (simp append-assoc);
-      master = last-piece (s ++ f ++ m ++ u) l p 100 32 k4 lp (simp append-assoc);
+      master = piece (s ++ f ++ m ++ u) l p 100 32 k4 lp [] (simp (append-assoc, append-nil));
     }
 
 -- whatever the hot part's 18 bytes are

@@ -12,13 +12,9 @@ use Rattle.layout.specs.Bytes.{hotBytes}
 use Rattle.block.proofs.Copies.{Copied, copied-done}
 
 -- a whole piece copied is the piece put
-pub copied-sets : {n : ℕ} {d s out : List ℕ} {at j : ℕ} → Copied n d s out at 0 j → length s ≡ n → n ≤ j → out ≡ sets d at s
-copied-sets {n} {d} {s} {out} {at} {j} c l h =
-    let p : at + length s ≤ length d = omega (arith, l, c .room) in
-    copied-done c h
-    ∙ ap (λ (k : ℕ). take at d ++ take k s ++ drop (at + k) d) (sym l)
-    ∙ ap (λ (x : List ℕ). take at d ++ x ++ drop (at + length s) d) (take-length s)
-    ∙ sym (sets-eq s d at p)
+pub copied-sets : {d s out : List ℕ} {at j : ℕ} → Copied (length s) d s out at 0 j → length s ≤ j → out ≡ sets d at s
+copied-sets {d} {s} {out} {at} {j} c h =
+    copied-done c h ∙ ap (λ (x : List ℕ). take at d ++ x ++ drop (at + length s) d) (take-length s) ∙ sym (sets-eq s d at (c .room))
 
 -- `piece` put behind the front
 put-next : (b front piece : List ℕ) (at n : ℕ) → length piece ≡ n → at + n ≤ length b → take at b ≡ front
@@ -58,10 +54,7 @@ put-all b h n s f m u p lb lh ln ls lf lm lu lp =
     let t6 : take 131 b6 ≡ h ++ n ++ s ++ f ++ m ++ u = put-next b5 (h ++ n ++ s ++ f ++ m) u 99 32 lu (omega (arith, l5)) t5 in
     let t7 : take 163 b7 ≡ h ++ n ++ s ++ f ++ m ++ u ++ p = put-next b6 (h ++ n ++ s ++ f ++ m ++ u) p 131 32 lp (omega (arith, l6)) t6 in
     let w : take 163 b7 ≡ b7 = take-all 163 b7 (omega (arith, l7)) in
-    sym w ∙ t7 ∙ right-nested h n s f m u p
-  where
-    right-nested : (h n s f m u p : List ℕ) → h ++ n ++ s ++ f ++ m ++ u ++ p ≡ h ++ (n ++ ((s ++ (f ++ m)) ++ (u ++ p)))
-    right-nested h n s f m u p = simp append-assoc
+    sym w ∙ t7 ∙ simp append-assoc
 
 pub hot-bytes-long : (h : Hot) → length (hotBytes h) ≡ 18
 hot-bytes-long h = long (h .transfer)

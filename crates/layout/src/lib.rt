@@ -173,43 +173,16 @@ fn security_at(state: &[u8]) -> Security
     }
 }
 
-fn serial_at(bytes: &[u8], at: usize) -> [u8; 20]
-    requires { ⌜ at + 20 ≤ length (now bytes) ⌝ }
-    ensures { λ r. ⌜ r ≡ take 20 (drop at (now (bytes .entry))) ⌝ }
+// All of `part` becomes the bytes from `at` on.
+fn fill(part: &mut [u8], bytes: &[u8], at: usize)
+    requires { ⌜ at + length (now part) ≤ length (now bytes) ⌝ }
+    ensures { λ _. ⌜ now (part .exit) ≡ take (length (now (part .entry))) (drop at (now (bytes .entry))) ⌝ }
 {
-    let mut serial = [0u8; 20];
     let mut taken = 0;
-    while taken < 20 {
-        serial[taken] = bytes[at + taken];
+    while taken < part.len() {
+        part[taken] = bytes[at + taken];
         taken += 1;
     }
-    serial
-}
-
-fn firmware_at(bytes: &[u8], at: usize) -> [u8; 8]
-    requires { ⌜ at + 8 ≤ length (now bytes) ⌝ }
-    ensures { λ r. ⌜ r ≡ take 8 (drop at (now (bytes .entry))) ⌝ }
-{
-    let mut firmware = [0u8; 8];
-    let mut taken = 0;
-    while taken < 8 {
-        firmware[taken] = bytes[at + taken];
-        taken += 1;
-    }
-    firmware
-}
-
-fn model_at(bytes: &[u8], at: usize) -> [u8; 40]
-    requires { ⌜ at + 40 ≤ length (now bytes) ⌝ }
-    ensures { λ r. ⌜ r ≡ take 40 (drop at (now (bytes .entry))) ⌝ }
-{
-    let mut model = [0u8; 40];
-    let mut taken = 0;
-    while taken < 40 {
-        model[taken] = bytes[at + taken];
-        taken += 1;
-    }
-    model
 }
 
 // Serial, firmware and model, one after the other.
@@ -217,9 +190,12 @@ pub fn identity_at(bytes: &[u8], at: usize) -> Identity
     requires { ⌜ at + 68 ≤ length (now bytes) ⌝ }
     ensures { λ r. ⌜ r ≡ identityStored (now (bytes .entry)) at ⌝ }
 {
-    let serial = serial_at(bytes, at);
-    let firmware = firmware_at(bytes, at + 20);
-    let model = model_at(bytes, at + 28);
+    let mut serial = [0u8; 20];
+    let mut firmware = [0u8; 8];
+    let mut model = [0u8; 40];
+    fill(&mut serial, bytes, at);
+    fill(&mut firmware, bytes, at + 20);
+    fill(&mut model, bytes, at + 28);
     Identity {
         serial,
         firmware,
@@ -249,11 +225,7 @@ pub fn password_at(bytes: &[u8], at: usize) -> [u8; 32]
     ensures { λ r. ⌜ r ≡ take 32 (drop at (now (bytes .entry))) ⌝ }
 {
     let mut password = [0u8; 32];
-    let mut taken = 0;
-    while taken < 32 {
-        password[taken] = bytes[at + taken];
-        taken += 1;
-    }
+    fill(&mut password, bytes, at);
     password
 }
 
@@ -435,46 +407,14 @@ fn put_numbers(state: &mut [u8], settled: Settled)
     state[30] = byte_of(security.prepared);
 }
 
-fn put_serial(state: &mut [u8], at: usize, serial: [u8; 20])
-    requires { ⌜ at + 20 ≤ length (now state) ⌝ }
-    ensures { λ _. ⌜ (now (state .exit) ≡ sets (now (state .entry)) at serial) × (length serial ≡ 20) ⌝ }
+// The bytes from `at` on become these.
+fn put_bytes(state: &mut [u8], at: usize, bytes: &[u8])
+    requires { ⌜ at + length (now bytes) ≤ length (now state) ⌝ }
+    ensures { λ _. ⌜ now (state .exit) ≡ sets (now (state .entry)) at (now (bytes .entry)) ⌝ }
 {
     let mut put = 0;
-    while put < 20 {
-        state[at + put] = serial[put];
-        put += 1;
-    }
-}
-
-fn put_firmware(state: &mut [u8], at: usize, firmware: [u8; 8])
-    requires { ⌜ at + 8 ≤ length (now state) ⌝ }
-    ensures { λ _. ⌜ (now (state .exit) ≡ sets (now (state .entry)) at firmware) × (length firmware ≡ 8) ⌝ }
-{
-    let mut put = 0;
-    while put < 8 {
-        state[at + put] = firmware[put];
-        put += 1;
-    }
-}
-
-fn put_model(state: &mut [u8], at: usize, model: [u8; 40])
-    requires { ⌜ at + 40 ≤ length (now state) ⌝ }
-    ensures { λ _. ⌜ (now (state .exit) ≡ sets (now (state .entry)) at model) × (length model ≡ 40) ⌝ }
-{
-    let mut put = 0;
-    while put < 40 {
-        state[at + put] = model[put];
-        put += 1;
-    }
-}
-
-fn put_password(state: &mut [u8], at: usize, password: [u8; 32])
-    requires { ⌜ at + 32 ≤ length (now state) ⌝ }
-    ensures { λ _. ⌜ (now (state .exit) ≡ sets (now (state .entry)) at password) × (length password ≡ 32) ⌝ }
-{
-    let mut put = 0;
-    while put < 32 {
-        state[at + put] = password[put];
+    while put < bytes.len() {
+        state[at + put] = bytes[put];
         put += 1;
     }
 }
@@ -487,9 +427,9 @@ fn put_identity(state: &mut [u8], identity: Identity)
     let serial = identity.serial;
     let firmware = identity.firmware;
     let model = identity.model;
-    put_serial(state, 31, serial);
-    put_firmware(state, 51, firmware);
-    put_model(state, 59, model);
+    put_bytes(state, 31, &serial);
+    put_bytes(state, 51, &firmware);
+    put_bytes(state, 59, &model);
 }
 
 fn put_secrets(state: &mut [u8], secrets: Secrets)
@@ -499,8 +439,8 @@ fn put_secrets(state: &mut [u8], secrets: Secrets)
 {
     let user = secrets.user;
     let master = secrets.master;
-    put_password(state, 99, user);
-    put_password(state, 131, master);
+    put_bytes(state, 99, &user);
+    put_bytes(state, 131, &master);
 }
 
 // State and buffer become the device's.

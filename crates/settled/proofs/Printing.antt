@@ -8,6 +8,7 @@ use native.Mathlib.Omega.{arith}
 use lib.ListN.{length, getD, drop}
 use lib.Seq.{drop-cons, drop-length}
 use Rattle.base.specs.Choice.{pick}
+use Rattle.base.proofs.Tests.{pick-and, pick-test}
 use Rattle.settled.specs.Identity.{plain, printable}
 
 -- j bytes of t have been seen: `all` says whether they are printable
@@ -23,10 +24,6 @@ printable-at : (t : List ℕ) (j : ℕ) → j < length t
 unfolding printable
 printable-at t j h = rw (drop-cons t j 0 h, add-one j)
 
-next-byte : (a b c : Bool) → pick a (pick b c false) false ≡ pick (a && b) c false
-next-byte true b c = refl
-next-byte false b c = refl
-
 pub seen-more : {t : List ℕ} {all p : Bool} {j : ℕ} → Seen t all j → j < length t → p ≡ plain (getD t j 0)
     → Seen t (all && p) (j + 1)
 seen-more {t} {all} {p} {j} s h e =
@@ -34,14 +31,10 @@ seen-more {t} {all} {p} {j} s h e =
       below = omega arith;
       is = s .is
           ∙ ap (λ (b : Bool). pick all b false) (printable-at t j h)
-          ∙ next-byte all (plain (getD t j 0)) (printable (drop (j + 1) t))
+          ∙ pick-and all (plain (getD t j 0)) (printable (drop (j + 1) t))
           ∙ ap (λ (b : Bool). pick (all && b) (printable (drop (j + 1) t)) false) (sym e);
     }
 
 pub seen-done : {t : List ℕ} {all : Bool} {j : ℕ} → Seen t all j → length t ≤ j → all ≡ printable t
 unfolding printable
-seen-done {t} {all} {j} s h = let e : j ≡ length t = omega arith in sym (s .is ∙ rw (e, drop-length t) (said all))
-  where
-    said : (b : Bool) → pick b true false ≡ b
-    said true = refl
-    said false = refl
+seen-done {t} {all} {j} s h = let e : j ≡ length t = omega arith in sym (s .is ∙ rw (e, drop-length t) (pick-test all))

@@ -1,27 +1,44 @@
 -- Three pieces, one behind the other.
 use borrow.Author.Needs.{needs}
+use lib.ListN.{length}
+use mathlib.Core.Path.{_≡_}
+use native.Mathlib.Omega.{arith}
 use Rattle.layout.proofs.put_identity.Statement.{statement}
 use Rattle.layout.proofs.put_identity.Tie as tie
 
-put-serial-requires : tie.Need-put-serial-requires
-put-serial-requires c κs = search needs
+slice-aggregate-put-bytes : tie.Need-slice-aggregate-put-bytes
+slice-aggregate-put-bytes c = search needs
 
-put-firmware-requires : tie.Need-put-firmware-requires
-put-firmware-requires c κs = search needs
+put-bytes-requires : tie.Need-put-bytes-requires
+put-bytes-requires c κs = let l : length (c .before .before .before .before .before .before .args .identity .serial) ≡ 20 = search needs in omega arith
 
-put-model-requires : tie.Need-put-model-requires
-put-model-requires c κs = search needs
+slice-aggregate-put-bytes-2 : tie.Need-slice-aggregate-put-bytes-2
+slice-aggregate-put-bytes-2 c = search needs
+
+put-bytes-requires-2 : tie.Need-put-bytes-requires-2
+put-bytes-requires-2 c κs = let l : length (c .before .before .before .before .before .before .before .before .before .before .before .args .identity .firmware) ≡ 8 = search needs in omega arith
+
+slice-aggregate-put-bytes-3 : tie.Need-slice-aggregate-put-bytes-3
+slice-aggregate-put-bytes-3 c = search needs
+
+put-bytes-requires-3 : tie.Need-put-bytes-requires-3
+put-bytes-requires-3 c κs = let l : length (c .before .before .before .before .before .before .before .before .before .before .before .before .before .before .before .before .args .identity .model) ≡ 40 = search needs in omega arith
 
 same-length : tie.Need-same-length
 same-length c = search needs
 
 returns : tie.Need-returns
-returns c = (
-  rw (c .before .before .put-model .ensures .0, c .before .before .before .before .before .before .put-firmware .ensures .0, c .before .before .before .before .before .before .before .before .before .before .put-serial .ensures .0),
-  (c .before .before .before .before .before .before .before .before .before .before .put-serial .ensures .1, (c .before .before .before .before .before .before .put-firmware .ensures .1, c .before .before .put-model .ensures .1)),
-)
+returns c = (rw (c .before .before .put-bytes3 .ensures, c .before .before .before .before .before .before .before .put-bytes2 .ensures, c .before .before .before .before .before .before .before .before .before .before .before .before .put-bytes .ensures), search needs)
 
 pub put-identity-spec : {M : Type 1} → statement M
 put-identity-spec =
     tie.close
-    (tie.spec put-serial-requires put-firmware-requires put-model-requires same-length returns)
+    (tie.spec
+    slice-aggregate-put-bytes
+    put-bytes-requires
+    slice-aggregate-put-bytes-2
+    put-bytes-requires-2
+    slice-aggregate-put-bytes-3
+    put-bytes-requires-3
+    same-length
+    returns)

@@ -15,58 +15,58 @@ cast-state-2 : tie.Need-cast-state-2
 cast-state-2 c = search needs
 
 slice-write-state-2 : tie.Need-slice-write-state-2
-slice-write-state-2 c = simp length-set (omega arith)
+slice-write-state-2 c = simp length-set (omega (arith, c .before .before .before .before .before .before .pre))
 
 slice-write-state-3 : tie.Need-slice-write-state-3
-slice-write-state-3 c = simp length-set (omega arith)
+slice-write-state-3 c = simp length-set (omega (arith, c .before .before .before .before .before .before .pre))
 
 slice-write-state-4 : tie.Need-slice-write-state-4
-slice-write-state-4 c = simp length-set (omega arith)
+slice-write-state-4 c = simp length-set (omega (arith, c .before .before .before .before .before .before .pre))
 
 cast-state-3 : tie.Need-cast-state-3
 cast-state-3 c = search needs
 
 slice-write-state-5 : tie.Need-slice-write-state-5
-slice-write-state-5 c = simp length-set (omega arith)
+slice-write-state-5 c = simp length-set (omega (arith, c .before .before .before .before .before .before .before .pre))
 
 cast-state-4 : tie.Need-cast-state-4
 cast-state-4 c = search needs
 
 slice-write-state-6 : tie.Need-slice-write-state-6
-slice-write-state-6 c = simp length-set (omega arith)
+slice-write-state-6 c = simp length-set (omega (arith, c .before .before .before .before .before .before .before .before .pre))
 
 slice-write-state-7 : tie.Need-slice-write-state-7
-slice-write-state-7 c = simp length-set (omega arith)
+slice-write-state-7 c = simp length-set (omega (arith, c .before .before .before .before .before .before .before .before .pre))
 
 slice-write-state-8 : tie.Need-slice-write-state-8
-slice-write-state-8 c = simp length-set (omega arith)
+slice-write-state-8 c = simp length-set (omega (arith, c .before .before .before .before .before .before .before .before .pre))
 
 lock-byte-requires : tie.Need-lock-byte-requires
 lock-byte-requires c κs = search needs
 
 slice-write-state-9 : tie.Need-slice-write-state-9
-slice-write-state-9 c = simp length-set (omega arith)
+slice-write-state-9 c = simp length-set (omega (arith, c .before .before .before .before .before .before .before .before .before .pre))
 
 byte-of-requires : tie.Need-byte-of-requires
 byte-of-requires c κs = search needs
 
 slice-write-state-10 : tie.Need-slice-write-state-10
-slice-write-state-10 c = simp length-set (omega arith)
+slice-write-state-10 c = simp length-set (omega (arith, c .before .before .before .before .before .before .before .before .before .before .pre))
 
 byte-of-requires-2 : tie.Need-byte-of-requires-2
 byte-of-requires-2 c κs = search needs
 
 slice-write-state-11 : tie.Need-slice-write-state-11
-slice-write-state-11 c = simp length-set (omega arith)
+slice-write-state-11 c = simp length-set (omega (arith, c .before .before .before .before .before .before .before .before .before .before .before .pre))
 
 slice-write-state-12 : tie.Need-slice-write-state-12
-slice-write-state-12 c = simp length-set (omega arith)
+slice-write-state-12 c = simp length-set (omega (arith, c .before .before .before .before .before .before .before .before .before .before .before .pre))
 
 byte-of-requires-3 : tie.Need-byte-of-requires-3
 byte-of-requires-3 c κs = search needs
 
 slice-write-state-13 : tie.Need-slice-write-state-13
-slice-write-state-13 c = simp length-set (omega arith)
+slice-write-state-13 c = simp length-set (omega (arith, c .before .before .before .before .before .before .before .before .before .before .before .before .pre))
 
 same-length : tie.Need-same-length
 same-length c = simp length-set
