@@ -12,6 +12,7 @@ use Rattle.face.specs.declared.Hot.{Hot}
 use Rattle.face.specs.declared.Answer.{Answer}
 use Rattle.face.specs.declared.Answer.the-variants.{Done, NoRegister, OutOfShape, WrongLength, NoTransfer, SetupRefused}
 use Rattle.device.specs.Alone.{aloneOf}
+use Rattle.device.specs.declared.Device.{Device}
 use Rattle.laws.proofs.Endings.{Bytes}
 use Rattle.layout.specs.Stored.{hotStored, settledStored, secretsStored, deviceStored}
 use Rattle.layout.specs.Bytes.{hotBytes}
@@ -26,14 +27,19 @@ use Rattle.words.proofs.Callers.{ready-reads}
 use Rattle.bulk.specs.Bulk.{countedReply, countedLent, letIn, wordsLetIn, wordsAdmitted, readsAdmitted, readLent, wordsLent, ReadsLent}
 use Rattle.bulk.proofs.Few.{few-handed}
 
+-- the device that the bytes hold, by the parts that were read off them
+pub of-stored : {A : Type 0} (b x : List ℕ) (h : Hot) (s : Settled) (f : Device → A) → h ≡ hotStored b → s ≡ settledStored b
+    → f (deviceStored b x) ≡ f (deviceWith h s x (secretsStored b))
+of-stored b x h s f eh es =
+    ap (λ (z : Hot). f (deviceWith z (settledStored b) x (secretsStored b))) (sym eh) ∙ ap (λ (z : Settled). f (deviceWith h z x (secretsStored b))) (sym es)
+
 -- what the words led to, of the device that the bytes hold
 handed-stored : (b x m out : List ℕ) (h : Hot) (s : Settled) (p : Passed) (x' out' : List ℕ) → h ≡ hotStored b → s ≡ settledStored b
     → Reads h s x m out p x' out'
     → readWordsOf aloneOf (length out / 2) (deviceStored b x) m
     ≡ record { words = wordsIn (take (2 * p .words) out'); device = deviceWith (p .hot) (settledStored b) x' (secretsStored b); sectors = m }
 handed-stored b x m out h s p x' out' eh es k =
-    ap (λ (z : Hot). readWordsOf aloneOf (length out / 2) (deviceWith z (settledStored b) x (secretsStored b)) m) (sym eh)
-    ∙ ap (λ (z : Settled). readWordsOf aloneOf (length out / 2) (deviceWith h z x (secretsStored b)) m) (sym es)
+    of-stored b x h s (λ (d : Device). readWordsOf aloneOf (length out / 2) d m) eh es
     ∙ k .handed (secretsStored b)
     ∙ ap (λ (z : Settled). record { words = wordsIn (take (2 * p .words) out'); device = deviceWith (p .hot) z x' (secretsStored b); sectors = m }) es
 
@@ -63,12 +69,6 @@ reads-gives b x m out h s p r b' x' out' a low eh es k eb er =
       long = k .long;
       behind = ap (λ (n : ℕ). drop (2 * n) out') l ∙ k .behind ∙ ap (λ (n : ℕ). drop (2 * n) out) (sym l);
     })
-
--- let in
-pub reads-let-in : (b x m out : List ℕ) (r : Reply) (b' x' out' : List ℕ) → admissionOf b m ≡ Done
-    → ReadsLent (readsAdmitted b x m (length out / 2)) (wordsAdmitted b x m (length out / 2)) out r b' x' m out'
-    → ReadsLent (readLent b x m (length out / 2)) (wordsLent b x m (length out / 2)) out r b' x' m out'
-reads-let-in b x m out r b' x' out' e k = rw e k
 
 -- turned away, a call leaves everything
 pub away-left : (b x m : List ℕ) (l : Lent) (w : Answer) → isRefusal w ≡ true → letIn b x m l w ≡ leftAlone b x m w

@@ -33,7 +33,7 @@ use Rattle.words.proofs.Bytes.{words-length}
 use Rattle.words.proofs.Callers.{takesOne, writes-behind, writes-all, writes-next, ready-writes}
 use Rattle.bulk.specs.Bulk.{countedReply, writesAdmitted, writeLent, lastStep, LastWord}
 use Rattle.bulk.proofs.Few.{few-taken}
-use Rattle.bulk.proofs.Reading.{away-left}
+use Rattle.bulk.proofs.Reading.{of-stored, away-left}
 
 -- the device of these parts, its action, and its bytes
 pub last-gives : (b x : List ℕ) (h : Hot) (s : Settled) (w : ℕ) (m : List ℕ) (user master : List ℕ) (o : Outcome) (b' x' m' : List ℕ)
@@ -56,14 +56,10 @@ last-gives b x h s w m user master o b' x' m' eu em eo es eb ex =
     }
 
 -- the words that passed, of the device that the bytes hold
-stored : (b x m bytes : List ℕ) (h : Hot) (s : Settled) (t : Settled → Taken) → h ≡ hotStored b → s ≡ settledStored b
+taken-stored : (b x m bytes : List ℕ) (h : Hot) (s : Settled) (t : Settled → Taken) → h ≡ hotStored b → s ≡ settledStored b
     → writeWordsOf aloneOf (wordsIn bytes) (deviceWith h s x (secretsStored b)) m ≡ t s
     → writeWordsOf aloneOf (wordsIn bytes) (deviceStored b x) m ≡ t (settledStored b)
-stored b x m bytes h s t eh es k =
-    ap (λ (z : Hot). writeWordsOf aloneOf (wordsIn bytes) (deviceWith z (settledStored b) x (secretsStored b)) m) (sym eh)
-    ∙ ap (λ (z : Settled). writeWordsOf aloneOf (wordsIn bytes) (deviceWith h z x (secretsStored b)) m) (sym es)
-    ∙ k
-    ∙ ap t es
+taken-stored b x m bytes h s t eh es k = of-stored b x h s (λ (d : Device). writeWordsOf aloneOf (wordsIn bytes) d m) eh es ∙ k ∙ ap t es
 
 -- what a bulk gives, by where single writes lead
 counted-gives : (b x m bytes : List ℕ) (t : Taken) (k : ℕ) (r : Reply) (b' x' m' : List ℕ) → writeWordsOf aloneOf (wordsIn bytes) (deviceStored b x) m ≡ t → k ≡ t .count → r ≡ countedReply k (length bytes / 2)
@@ -80,7 +76,7 @@ pub all-gives : (b x m bytes : List ℕ) (h : Hot) (s : Settled) (p : Passed) (r
     → GivesBack (writesAdmitted b x m (wordsIn bytes)) r b' x' m'
 all-gives b x m bytes h s p r b' x' m' a low eh es k full eb er =
     let few : length bytes < 2 * p .words + 2 = omega (arith, full) in
-    let e = stored b x m bytes h s (λ (z : Settled). record { count = p .words; device = deviceWith (p .hot) z x' (secretsStored b); sectors = m' }) eh es (writes-all k few (secretsStored b)) in
+    let e = taken-stored b x m bytes h s (λ (z : Settled). record { count = p .words; device = deviceWith (p .hot) z x' (secretsStored b); sectors = m' }) eh es (writes-all k few (secretsStored b)) in
     counted-gives b x m bytes _ (p .words) r b' x' m' e refl er (eb ∙ hot-put b (p .hot) (a .formed) low) refl refl
 
 -- the step that the word behind them makes
@@ -90,26 +86,26 @@ behind : (b x m bytes : List ℕ) (h : Hot) (s : Settled) (p : Passed) (x' m' : 
     ≡ takenBehind (p .words) (takesOne (deviceWith (p .hot) (settledStored b) x' (secretsStored b)) m' (lastStep b x' (p .hot) (settledStored b) (wordAt bytes (p .words)) m'))
 behind b x m bytes h s p x' m' eh es k less =
     let more : 2 * p .words + 2 ≤ length bytes = omega (arith, less) in
-    stored b x m bytes h s (λ (z : Settled). takenBehind (p .words) (takesOne (deviceWith (p .hot) z x' (secretsStored b)) m' (lastStep b x' (p .hot) z (wordAt bytes (p .words)) m'))) eh es
+    taken-stored b x m bytes h s (λ (z : Settled). takenBehind (p .words) (takesOne (deviceWith (p .hot) z x' (secretsStored b)) m' (lastStep b x' (p .hot) z (wordAt bytes (p .words)) m'))) eh es
     (writes-next k more (secretsStored b))
 
 -- it is done: a password block's last, and none is taken behind it
-pub done-gives : (b x m bytes : List ℕ) (h : Hot) (s : Settled) (p : Passed) (y m₁ : List ℕ) (w n : ℕ) (r : Reply) (b' x' m' : List ℕ) → Admitted b x m
+pub done-gives : (b x m bytes : List ℕ) (h : Hot) (s : Settled) (p : Passed) (y m₁ : List ℕ) (w n : ℕ) (r : Reply) (b' x' m' : List ℕ)
     → h ≡ hotStored b → s ≡ settledStored b → Writes h s x m bytes p y m₁ → p .words < length bytes / 2 → w ≡ wordAt bytes (p .words)
     → LastWord b y (p .hot) s w m₁ n b' x' m' → n ≡ 0 → r ≡ countedReply (p .words + 1) (length bytes / 2)
     → GivesBack (writesAdmitted b x m (wordsIn bytes)) r b' x' m'
-done-gives b x m bytes h s p y m₁ w n r b' x' m' a eh es k less ew g en er =
+done-gives b x m bytes h s p y m₁ w n r b' x' m' eh es k less ew g en er =
     let f = rw (es, ew) at g in
     let e = behind b x m bytes h s p y m₁ eh es k less in
     let z = eq-eqb _ _ (sym (f .number) ∙ en) in
     counted-gives b x m bytes _ (p .words + 1) r b' x' m' (rw z at e) refl er (f .state) (f .buffer) (f .sectors)
 
 -- it is turned away, and so has changed nothing
-pub refused-gives : (b x m bytes : List ℕ) (h : Hot) (s : Settled) (p : Passed) (y m₁ : List ℕ) (w n : ℕ) (r : Reply) (b' x' m' : List ℕ) → Admitted b x m
+pub refused-gives : (b x m bytes : List ℕ) (h : Hot) (s : Settled) (p : Passed) (y m₁ : List ℕ) (w n : ℕ) (r : Reply) (b' x' m' : List ℕ)
     → h ≡ hotStored b → s ≡ settledStored b → Writes h s x m bytes p y m₁ → p .words < length bytes / 2 → w ≡ wordAt bytes (p .words)
     → LastWord b y (p .hot) s w m₁ n b' x' m' → (n ≡ 0 → ⊥) → r ≡ countedReply (p .words) (length bytes / 2)
     → GivesBack (writesAdmitted b x m (wordsIn bytes)) r b' x' m'
-refused-gives b x m bytes h s p y m₁ w n r b' x' m' a eh es k less ew g en er =
+refused-gives b x m bytes h s p y m₁ w n r b' x' m' eh es k less ew g en er =
     let f = rw (es, ew) at g in
     let e = behind b x m bytes h s p y m₁ eh es k less in
     let d = deviceWith (p .hot) (settledStored b) y (secretsStored b) in
@@ -131,7 +127,7 @@ pub few-written : (b x m bytes : List ℕ) (h : Hot) (s : Settled) (p : Passed) 
     → Bytes (hotStored b .transfer) → Writes h s x m bytes p y m₁ → p .words ≤ 65536
 few-written b x m bytes h s p y m₁ eh es z k =
     let f = few-taken (wordsIn bytes) (deviceStored b x) m z in
-    let e = stored b x m bytes h s (λ (v : Settled). takenBehind (p .words) (writeWordsOf aloneOf (drop (p .words) (wordsIn bytes)) (deviceWith (p .hot) v y (secretsStored b)) m₁)) eh es (writes-behind k (secretsStored b)) in
+    let e = taken-stored b x m bytes h s (λ (v : Settled). takenBehind (p .words) (writeWordsOf aloneOf (drop (p .words) (wordsIn bytes)) (deviceWith (p .hot) v y (secretsStored b)) m₁)) eh es (writes-behind k (secretsStored b)) in
     let g = rw (ap (λ (t : Taken). t .count) e) at f in
     omega (arith, g)
 

@@ -53,7 +53,7 @@ wordDone d m v = record { outcome = outcome d Done v; sectors = m }
 -- ---- single words
 
 -- a word that passes
-pub reads-first : (r : Rules) (n : ℕ) (d : Device) (m : List ℕ) (e : Device) (q : List ℕ) (v : ℕ) → r d m ReadWord ≡ wordDone e q v
+reads-first : (r : Rules) (n : ℕ) (d : Device) (m : List ℕ) (e : Device) (q : List ℕ) (v : ℕ) → r d m ReadWord ≡ wordDone e q v
     → readWordsOf r (suc n) d m ≡ handsBehind (v ∷ []) (readWordsOf r n e q)
 unfolding readWordsOf
 reads-first r n d m e q v k =

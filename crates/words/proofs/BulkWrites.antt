@@ -39,7 +39,7 @@ use Rattle.laws.proofs.ReadBack.{putAll}
 use Rattle.glance.specs.Places.{placeOf, runPlacedAt, placedAt, hotAt}
 use Rattle.glance.specs.Glances.{takesIn, writeGlance, writeGlanceBuffer, glanceOf, glanceBuffer}
 use Rattle.glance.proofs.Glancing.{hot-same, glance-settles, glance-buffer}
-use Rattle.words.specs.Words.{Taken, takenBehind, writeWordsOf}
+use Rattle.words.specs.Words.{Taken, takesNone, takenBehind, writeWordsOf}
 use Rattle.words.specs.Blocks.{faceWith, faceAt, takesTo, takesHere, blockTaken, blockStored, writtenUpTo, storedUpTo}
 use Rattle.words.specs.Bulk.{deviceWith, hereOf}
 use Rattle.words.proofs.BulkReads.{wordDone}
@@ -47,11 +47,11 @@ use Rattle.words.proofs.BulkReads.{wordDone}
 -- ---- single words
 
 -- a word that passes
-pub takes-first : (r : Rules) (w : ℕ) (l : List ℕ) (d : Device) (m : List ℕ) (e : Device) (q : List ℕ) (v : ℕ) → r d m (WriteWord w) ≡ wordDone e q v
+takes-first : (r : Rules) (w : ℕ) (l : List ℕ) (d : Device) (m : List ℕ) (e : Device) (q : List ℕ) (v : ℕ) → r d m (WriteWord w) ≡ wordDone e q v
     → writeWordsOf r (w ∷ l) d m ≡ takenBehind 1 (writeWordsOf r l e q)
 unfolding writeWordsOf
 takes-first r w l d m e q v k =
-    ap (λ (s : Step). pick (eqb (s .outcome .number) 0) (takenBehind 1 (writeWordsOf r l (s .outcome .device) (s .sectors))) (record { count = 0; device = d; sectors = m })) k
+    ap (λ (s : Step). pick (eqb (s .outcome .number) 0) (takenBehind 1 (writeWordsOf r l (s .outcome .device) (s .sectors))) (takesNone d m)) k
 
 pub taken-behind : (j k : ℕ) (t : Taken) → takenBehind j (takenBehind k t) ≡ takenBehind (j + k) t
 taken-behind j k t =
@@ -63,7 +63,7 @@ behind-none t = ap (λ (n : ℕ). record { count = n; device = t .device; sector
 
 -- a word that passes or not, and those behind it
 abbrev takenNext : Bool → Device → List ℕ → Taken → Taken
-takenNext y d m t = pick y (takenBehind 1 t) (record { count = 0; device = d; sectors = m })
+takenNext y d m t = pick y (takenBehind 1 t) (takesNone d m)
 
 append-next : (r : Rules) (ws l : List ℕ) (d : Device) (m : List ℕ) (s : Step) (y : Bool)
     → (writeWordsOf r ws (s .outcome .device) (s .sectors) .count ≡ length ws

@@ -55,7 +55,7 @@ word-refused f x m w (ReadingBuffer n) e = refl
 word-refused f x m w (WritingBuffer n) e = absurd (false≢true (sym e))
 word-refused f x m w (TakingPassword b) e = absurd (false≢true (sym e))
 
-pub writes-none : (l : List ℕ) (d : Device) (m : List ℕ) → takesIn (d .face .hot .transfer) ≡ false → writeWordsOf aloneOf l d m ≡ takesNone d m
+writes-none : (l : List ℕ) (d : Device) (m : List ℕ) → takesIn (d .face .hot .transfer) ≡ false → writeWordsOf aloneOf l d m ≡ takesNone d m
 unfolding writeWordsOf aloneOf ignoredOf actOf writeWordOf
 writes-none [] d m e = refl
 writes-none (w ∷ l) d m e = rw (word-refused (d .face) (d .secrets) m w (d .face .hot .transfer) e)

@@ -1,5 +1,5 @@
 -- Let in, the words are read; turned away, everything is left.
-use Rattle.bulk.proofs.Reading.{reads-away, reads-let-in}
+use Rattle.bulk.proofs.Reading.{reads-away}
 use Rattle.lent.proofs.Lending.{admitted, number-done, number-refuses}
 use borrow.Author.Needs.{needs}
 use mathlib.Core.Path.{_∙_, sym}
@@ -22,7 +22,7 @@ same-length-2 : tie.Need-same-length-2
 same-length-2 c = search needs
 
 returns : tie.Need-returns
-returns c = reads-let-in _ _ _ _ _ _ _ _ (sym (c .before .before .before .before .before .before .before .before .before .before .admission .ensures) ∙ number-done _ (sym (c .before .before .before .before .before .before .before .before .before .number .ensures) ∙ c .before .before .before .before .before .before .before .before .if1 .taken)) (c .before .before .before .before .read-admitted .ensures)
+returns c = rw (sym (c .before .before .before .before .before .before .before .before .before .before .admission .ensures) ∙ number-done _ (sym (c .before .before .before .before .before .before .before .before .before .number .ensures) ∙ c .before .before .before .before .before .before .before .before .if1 .taken)) (c .before .before .before .before .read-admitted .ensures)
 
 refused-requires : tie.Need-refused-requires
 refused-requires c κs = search needs

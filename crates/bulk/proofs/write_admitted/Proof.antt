@@ -51,7 +51,7 @@ same-length-2 : tie.Need-same-length-2
 same-length-2 c = search needs
 
 returns : tie.Need-returns
-returns c = done-gives _ _ _ _ _ _ _ _ _ _ _ _ _ _ _ (c .before .before .before .before .before .before .before .before .before .before .before .before .before .before .before .before .before .before .before .before .before .before .before .before .before .before .before .pre) (c .before .before .before .before .before .before .before .before .before .before .before .before .before .before .before .before .before .before .before .before .before .before .hot-at .ensures) (c .before .before .before .before .before .before .before .before .before .before .before .before .before .before .before .before .before .before .before .before .settled-at .ensures) (c .before .before .before .before .before .before .before .before .before .before .before .before .before .before .before .before .before .write-words .ensures) (c .before .before .before .before .before .before .before .before .before .before .before .before .before .if1 .taken) (word-is _ _ (c .before .before .before .before .before .before .before .before .before .before .pair .ensures)) (c .before .before .before .before .before .before .last-word .ensures) (c .before .if2 .taken) (c .counted .ensures)
+returns c = done-gives _ _ _ _ _ _ _ _ _ _ _ _ _ _ _ (c .before .before .before .before .before .before .before .before .before .before .before .before .before .before .before .before .before .before .before .before .before .before .hot-at .ensures) (c .before .before .before .before .before .before .before .before .before .before .before .before .before .before .before .before .before .before .before .before .settled-at .ensures) (c .before .before .before .before .before .before .before .before .before .before .before .before .before .before .before .before .before .write-words .ensures) (c .before .before .before .before .before .before .before .before .before .before .before .before .before .if1 .taken) (word-is _ _ (c .before .before .before .before .before .before .before .before .before .before .pair .ensures)) (c .before .before .before .before .before .before .last-word .ensures) (c .before .if2 .taken) (c .counted .ensures)
 
 counted-requires-2 : tie.Need-counted-requires-2
 counted-requires-2 c κs = few-written _ _ _ _ _ _ _ _ _ (c .before .before .before .before .before .before .before .before .before .before .before .before .before .before .before .before .before .before .before .before .before .hot-at .ensures) (c .before .before .before .before .before .before .before .before .before .before .before .before .before .before .before .before .before .before .before .settled-at .ensures) (bytes-stored _ (omega (arith, c .before .before .before .before .before .before .before .before .before .before .before .before .before .before .before .before .before .before .before .before .before .before .before .before .before .slice-known .given 16)) (omega (arith, c .before .before .before .before .before .before .before .before .before .before .before .before .before .before .before .before .before .before .before .before .before .before .before .before .before .slice-known .given 17))) (c .before .before .before .before .before .before .before .before .before .before .before .before .before .before .before .before .write-words .ensures)
@@ -63,7 +63,7 @@ same-length-4 : tie.Need-same-length-4
 same-length-4 c = search needs
 
 returns-2 : tie.Need-returns-2
-returns-2 c = refused-gives _ _ _ _ _ _ _ _ _ _ _ _ _ _ _ (c .before .before .before .before .before .before .before .before .before .before .before .before .before .before .before .before .before .before .before .before .before .before .before .before .before .before .before .pre) (c .before .before .before .before .before .before .before .before .before .before .before .before .before .before .before .before .before .before .before .before .before .before .hot-at .ensures) (c .before .before .before .before .before .before .before .before .before .before .before .before .before .before .before .before .before .before .before .before .settled-at .ensures) (c .before .before .before .before .before .before .before .before .before .before .before .before .before .before .before .before .before .write-words .ensures) (c .before .before .before .before .before .before .before .before .before .before .before .before .before .if1 .taken) (word-is _ _ (c .before .before .before .before .before .before .before .before .before .before .pair .ensures)) (c .before .before .before .before .before .before .last-word .ensures) (c .before .if2 .left) (c .counted2 .ensures)
+returns-2 c = refused-gives _ _ _ _ _ _ _ _ _ _ _ _ _ _ _ (c .before .before .before .before .before .before .before .before .before .before .before .before .before .before .before .before .before .before .before .before .before .before .hot-at .ensures) (c .before .before .before .before .before .before .before .before .before .before .before .before .before .before .before .before .before .before .before .before .settled-at .ensures) (c .before .before .before .before .before .before .before .before .before .before .before .before .before .before .before .before .before .write-words .ensures) (c .before .before .before .before .before .before .before .before .before .before .before .before .before .if1 .taken) (word-is _ _ (c .before .before .before .before .before .before .before .before .before .before .pair .ensures)) (c .before .before .before .before .before .before .last-word .ensures) (c .before .if2 .left) (c .counted2 .ensures)
 
 put-hot-requires : tie.Need-put-hot-requires
 put-hot-requires c κs = formed-long _ (c .before .before .before .before .before .before .before .before .before .before .before .before .before .before .before .pre .formed)
