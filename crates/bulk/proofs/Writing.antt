@@ -15,7 +15,7 @@ use Rattle.face.specs.Reads.{numberOf}
 use Rattle.face.specs.declared.Hot.{Hot}
 use Rattle.face.specs.declared.Answer.{Answer}
 use Rattle.face.specs.declared.Action.the-variants.{WriteWord}
-use Rattle.device.specs.Alone.{aloneOf}
+use Rattle.device.specs.Alone.{Step, aloneOf}
 use Rattle.device.specs.Host.{stepOf}
 use Rattle.device.specs.declared.Device.{Device}
 use Rattle.device.specs.declared.Outcome.{Outcome}
@@ -42,17 +42,15 @@ pub last-gives : (b x : List ℕ) (h : Hot) (s : Settled) (w : ℕ) (m : List �
     → m' ≡ aloneOf (deviceWith h s x (record { user = user; master = master })) m (WriteWord w) .sectors
     → b' ≡ stateOf (o .device) → x' ≡ o .device .face .buffer → LastWord b x h s w m (o .number) b' x' m'
 last-gives b x h s w m user master o b' x' m' eu em eo es eb ex =
-    let q : o ≡ lastStep b x h s w m .outcome =
-    eo
-    ∙ ap (λ (z : List ℕ). aloneOf (deviceWith h s x (record { user = z; master = master })) m (WriteWord w) .outcome) eu
-    ∙ ap (λ (z : List ℕ). aloneOf (deviceWith h s x (record { user = take 32 (drop 99 b); master = z })) m (WriteWord w) .outcome) em in
+    let q : aloneOf (deviceWith h s x (record { user = user; master = master })) m (WriteWord w) ≡ lastStep b x h s w m =
+    ap (λ (z : List ℕ). aloneOf (deviceWith h s x (record { user = z; master = master })) m (WriteWord w)) eu
+    ∙ ap (λ (z : List ℕ). aloneOf (deviceWith h s x (record { user = take 32 (drop 99 b); master = z })) m (WriteWord w)) em in
+    let p : o ≡ lastStep b x h s w m .outcome = eo ∙ ap (λ (z : Step). z .outcome) q in
     record {
-      number = ap (λ (z : Outcome). z .number) q;
-      state = eb ∙ ap (λ (z : Outcome). stateOf (z .device)) q;
-      buffer = ex ∙ ap (λ (z : Outcome). z .device .face .buffer) q;
-      sectors = es
-          ∙ ap (λ (z : List ℕ). aloneOf (deviceWith h s x (record { user = z; master = master })) m (WriteWord w) .sectors) eu
-          ∙ ap (λ (z : List ℕ). aloneOf (deviceWith h s x (record { user = take 32 (drop 99 b); master = z })) m (WriteWord w) .sectors) em;
+      number = ap (λ (z : Outcome). z .number) p;
+      state = eb ∙ ap (λ (z : Outcome). stateOf (z .device)) p;
+      buffer = ex ∙ ap (λ (z : Outcome). z .device .face .buffer) p;
+      sectors = es ∙ ap (λ (z : Step). z .sectors) q;
     }
 
 -- the words that passed, of the device that the bytes hold

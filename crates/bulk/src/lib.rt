@@ -103,7 +103,7 @@ pub fn write_admitted(
     let count = passed.words;
     let far = passed.hot;
     if count < wanted {
-        let w = layout::pair(bytes[2 * count], bytes[2 * count + 1]);
+        let w = base::pair(bytes[2 * count], bytes[2 * count + 1]);
         let number = last_word(state, buffer, far, settled, w, sectors);
         if number == 0 {
             return counted(count + 1, wanted);

@@ -44,13 +44,6 @@ fn high_word(number: u32) -> u16
     (number / 65536) as u16
 }
 
-// A word of two characters.
-fn paired(first: u8, second: u8) -> u16
-    ensures { λ r. ⌜ r ≡ second + 256 * first ⌝ }
-{
-    (second as u16) + 256 * (first as u16)
-}
-
 // Word n of a text.
 fn text_word(text: &[u8], n: u16) -> u16
     requires { ⌜ 2 * n + 1 < length (now text) ⌝ }
@@ -58,7 +51,7 @@ fn text_word(text: &[u8], n: u16) -> u16
 {
     let first = 2 * (n as usize);
     let second = first + 1;
-    paired(text[first], text[second])
+    base::pair(text[second], text[first])
 }
 
 // Word n where it is no text.

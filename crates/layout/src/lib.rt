@@ -1,6 +1,6 @@
 // A device as bytes that its host keeps: 163 bytes of state, beside the 512 of the sector buffer.
 ghost use mathlib.Core.Path.{_≡_};
-ghost use Prim.Native.Nat.{_+_, _*_, _≤_};
+ghost use Prim.Native.Nat.{_+_, _≤_};
 ghost use lib.ListN.{length, take, drop};
 ghost use lib.Seq.{sets};
 ghost use Rattle.layout.specs.Stored.{addressStored, registersStored, markStored, signalsStored, runStored, blockOf, transferStored, hotStored, geometryStored, translationStored, lockStored, securityStored, identityStored, settledStored, deviceStored, marksFormed, noRunStored, transferFormed, formedOf};
@@ -120,19 +120,12 @@ pub fn hot_at(state: &[u8]) -> Hot
     }
 }
 
-// Two bytes, low one first.
-pub fn pair(low: u8, high: u8) -> u16
-    ensures { λ r. ⌜ r ≡ low + 256 * high ⌝ }
-{
-    (low as u16) + 256 * (high as u16)
-}
-
 fn geometry_at(state: &[u8]) -> Geometry
     requires { ⌜ length (now state) ≡ 163 ⌝ }
     ensures { λ r. ⌜ r ≡ geometryStored (now (state .entry)) ⌝ }
 {
     Geometry {
-        cylinders: pair(state[18], state[19]),
+        cylinders: base::pair(state[18], state[19]),
         heads: state[20],
         sectors: state[21],
     }
@@ -143,7 +136,7 @@ fn translation_at(state: &[u8]) -> Translation
     ensures { λ r. ⌜ r ≡ translationStored (now (state .entry)) ⌝ }
 {
     Translation {
-        cylinders: pair(state[22], state[23]),
+        cylinders: base::pair(state[22], state[23]),
         heads: state[24],
         sectors: state[25],
     }

@@ -32,7 +32,7 @@ fn read_one(state: &mut [u8], buffer: &mut [u8; 512], sectors: &[u8]) -> Reply
     let mut out = [0u8; 2];
     let reply = bulk::read_admitted(state, buffer, sectors, &mut out[..]);
     if reply.answer == 0 {
-        return lent::answered(0, layout::pair(out[0], out[1]) as u32);
+        return lent::answered(0, base::pair(out[0], out[1]) as u32);
     }
     reply
 }

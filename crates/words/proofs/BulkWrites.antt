@@ -89,7 +89,7 @@ writes-append r (w ∷ ws) l d m e =
     (writes-append r ws l (r d m (WriteWord w) .outcome .device) (r d m (WriteWord w) .sectors)) e
 
 -- a word that is taken in here is the device's own
-here-step : (d : Device) (m : List ℕ) (a : Action) → takesHere (d .face .hot .transfer) ≡ true → hereOf d m a ≡ aloneOf d m a
+pub here-step : (d : Device) (m : List ℕ) (a : Action) → takesHere (d .face .hot .transfer) ≡ true → hereOf d m a ≡ aloneOf d m a
 unfolding hereOf
 here-step d m a e = rw e
 

@@ -38,7 +38,7 @@ use Rattle.words.specs.Bulk.{deviceWith, hereOf, Writes}
 use Rattle.words.specs.declared.Passed.{Passed}
 use Rattle.words.proofs.Bytes.{words-length}
 use Rattle.words.proofs.AsSessions.{WritesAs, writes-session}
-use Rattle.words.proofs.BulkWrites.{taken-behind, behind-none}
+use Rattle.words.proofs.BulkWrites.{taken-behind, behind-none, here-step}
 
 -- one word, or none where it is turned away
 abbrev pub takesOne : Device → List ℕ → Step → Taken
@@ -68,11 +68,11 @@ judged-takes f EndsWell = refl
 judged-takes f Aborts = refl
 judged-takes f Erases = refl
 
--- it is done, and no further word is taken
+-- behind it no further word is taken
 last-judged : (f : Face) (x : Secrets) (m : List ℕ) (w : ℕ) (b : PasswordBlock) → ltb (b .word) 255 ≡ false
-    → (stepAs (writeWordAs f x m w (TakingPassword b)) .outcome .number ≡ 0) × (takesIn (stepAs (writeWordAs f x m w (TakingPassword b)) .outcome .device .face .hot .transfer) ≡ false)
+    → takesIn (stepAs (writeWordAs f x m w (TakingPassword b)) .outcome .device .face .hot .transfer) ≡ false
 unfolding passwordWord passwordLast
-last-judged f x m w b e = rw e (refl, judged-takes (passwordEnded (wordIn f (b .word) w) (judgementOf (wordIn f (b .word) w) x (b .purpose) .security)) (judgementOf (wordIn f (b .word) w) x (b .purpose) .verdict))
+last-judged f x m w b e = rw e (judged-takes (passwordEnded (wordIn f (b .word) w) (judgementOf (wordIn f (b .word) w) x (b .purpose) .security)) (judgementOf (wordIn f (b .word) w) x (b .purpose) .verdict))
 
 -- ---- the word at which write_words stops
 
@@ -96,7 +96,7 @@ behind-stop f x m w (Reading r) e n = absurd (omega arith)
 behind-stop f x m w (Writing r) e n = absurd (false≢true (sym e))
 behind-stop f x m w (ReadingBuffer i) e n = absurd (omega arith)
 behind-stop f x m w (WritingBuffer i) e n = absurd (false≢true (sym e))
-behind-stop f x m w (TakingPassword b) e n = last-judged f x m w b e .1
+behind-stop f x m w (TakingPassword b) e n = last-judged f x m w b e
 
 -- the one word alone: it is turned away, or it is a password block's last, behind which the next is turned away
 pub one-word : (w : ℕ) (l : List ℕ) (d : Device) (m : List ℕ) → takesHere (d .face .hot .transfer) ≡ false
@@ -109,7 +109,7 @@ one-word w l d m e = only-one w l d m (behind-stop (d .face) (d .secrets) m w (d
 -- a step that is done here is the device's own
 here-done : (d : Device) (m : List ℕ) (a : Action) → hereOf d m a .outcome .number ≡ 0 → hereOf d m a ≡ aloneOf d m a
 unfolding hereOf
-here-done d m a n = either-way (takesHere (d .face .hot .transfer)) (λ e. rw e) (λ e. absurd (let q = rw e at n in omega (arith, q)))
+here-done d m a n = either-way (takesHere (d .face .hot .transfer)) (here-step d m a) (λ e. absurd (let q = rw e at n in omega (arith, q)))
 
 -- single writes of these words are those that t has, and of the rest of them from there
 abbrev Behind : List ℕ → Device → List ℕ → Taken → Type 0

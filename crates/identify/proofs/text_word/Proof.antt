@@ -10,14 +10,14 @@ mul-first c = search needs
 add-second : tie.Need-add-second
 add-second c = search needs
 
-shared-slice-read-paired : tie.Need-shared-slice-read-paired
-shared-slice-read-paired c = search needs
+shared-slice-read-pair : tie.Need-shared-slice-read-pair
+shared-slice-read-pair c = search needs
 
-shared-slice-read-paired-2 : tie.Need-shared-slice-read-paired-2
-shared-slice-read-paired-2 c = search needs
+shared-slice-read-pair-2 : tie.Need-shared-slice-read-pair-2
+shared-slice-read-pair-2 c = search needs
 
-paired-requires : tie.Need-paired-requires
-paired-requires c κs = search needs
+pair-requires : tie.Need-pair-requires
+pair-requires c κs = search needs
 
 returns : tie.Need-returns
 unfolding textWord
@@ -29,7 +29,7 @@ text-word-spec =
     (tie.spec
     mul-first
     add-second
-    shared-slice-read-paired
-    shared-slice-read-paired-2
-    paired-requires
+    shared-slice-read-pair
+    shared-slice-read-pair-2
+    pair-requires
     returns)
