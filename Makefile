@@ -14,8 +14,7 @@ SEED := $(shell date +%s)
 PROGRAMS := . tools/programs.sh
 
 replay:
-	@tools/install.sh python3
-	@$(PROGRAMS) && build_replay
+	@$(PROGRAMS) && tools/install.sh python3 $$to_run && build_replay
 	@sed -n '1s/^# */$(notdir $(RECORDING)): /p' $(basename $(RECORDING)).txt 2>/dev/null || true
 	@$(PROGRAMS) && tools/recordings.py explain $(RECORDING) $$replay
 
@@ -23,11 +22,12 @@ test:
 	@tests/gate.sh
 
 soak:
-	@$(PROGRAMS) && build_replay && build_others && echo '$(SESSIONS) sessions from seed $(SEED)' && \
+	@$(PROGRAMS) && tools/install.sh $$to_run && build_replay && build_others && echo '$(SESSIONS) sessions from seed $(SEED)' && \
 	$$differential compare --seed $(SEED) --count $(SESSIONS) --keep build/differences $$replay $$second
 
 # Both tables are made even where the first misses a target.
 bench:
+	@$(PROGRAMS) && [ -z "$$emulated" ] || { echo 'bench: x86-64 code is timed, which says nothing under an emulator: run it on x86-64'; exit 1; }
 	@tools/install.sh python3 valgrind cc
 	@$(PROGRAMS) && build_replay && build_others && build_library && build_costs && \
 	{ tools/bench.py $$replay $$second $$differential; missed=$$?; tools/cost.py $$hosts/cost $$second_cost && exit $$missed; }

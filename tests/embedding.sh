@@ -5,7 +5,11 @@
 set -u
 cd "$(dirname "$0")/.." || exit 2
 . tools/programs.sh
+build_for_library
 checked='-g -fsanitize=address,undefined -fno-sanitize-recover=all'
+# The address sanitizer reserves terabytes, and the emulator keeps a record for each page of them: more than any machine's memory.
+# What guards the stack and the C library's copies stands in for it, as far as it goes.
+[ -z "$emulated" ] || checked='-g -fsanitize=undefined -fno-sanitize-recover=all -fstack-protector-all -D_FORTIFY_SOURCE=2'
 # Nothing is allocated, and looking for leaks needs rights that not every machine gives.
 export ASAN_OPTIONS=detect_leaks=0
 steps_of='embedding'
@@ -44,8 +48,14 @@ mapped() {
     return "$status"
 }
 
+# Where pages are larger than x86-64's, the emulator can't keep a single one of those inaccessible.
+keeps_single_pages() {
+    [ -z "$emulated" ] || [ "$(getconf PAGESIZE)" -eq 4096 ] || { echo 'pages here are not of 4096 bytes'; return 1; }
+}
+
 # What it covered goes to a file; it fails by itself where a class was never reached.
 boundary() {
+    keeps_single_pages || return 1
     build_host boundary $checked hosts/c/boundary/*.c || return 1
     "$hosts/boundary" >build/boundary.log || { cat build/boundary.log; return 1; }
     awk '/none amiss$/ { n += $(NF - 2) } END { print n " calls and setups, none amiss (build/boundary.log)" }' build/boundary.log
@@ -58,6 +68,7 @@ cost() {
 }
 
 build_library || exit 1
+[ -z "$emulated" ] || echo 'embedding: under an emulator, so without the address sanitizer, which runs on x86-64 only'
 step symbols symbols
 step header header
 step story story

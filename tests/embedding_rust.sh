@@ -4,6 +4,7 @@
 set -u
 cd "$(dirname "$0")/.." || exit 2
 . tools/programs.sh
+build_for_library
 # Cargo runs the crate's build script in another folder.
 [ -z "${THINNAROM_LIBRARY:-}" ] || THINNAROM_LIBRARY=$(realpath "$THINNAROM_LIBRARY") || exit 2
 steps_of='embedding in Rust'

@@ -57,7 +57,7 @@ compare() {
     "$differential" compare --seed 1 --count 2000 --keep build/differences "$replay" "$second"
 }
 
-tools/install.sh python3 cc || exit 2
+tools/install.sh python3 cc $to_run $to_link || exit 2
 
 # With a stand-in the parts can be tried, but the verdict is not the proved program's or library's.
 [ -z "${REPLAY:-}${THINNAROM_LIBRARY:-}" ] || part 'stand-in' false

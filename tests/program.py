@@ -13,6 +13,7 @@ import subprocess
 import sys
 import tempfile
 import threading
+import time
 
 REPLAY, SECOND, DIFFERENTIAL = (os.path.abspath(path) for path in sys.argv[1:4])
 PATIENCE = 10  # seconds, far above what any step takes
@@ -73,8 +74,9 @@ class Replay:
             return self.grown.wait_for(lambda: length <= self.length, PATIENCE)
 
     def highest_memory(self):
-        with open(f'/proc/{self.child.pid}/status', encoding='ascii') as f:
-            return int(re.search(r'VmHWM:\s*(\d+) kB', f.read()).group(1))
+        """What an emulator takes by itself is not the program's."""
+        emulated = os.path.basename(os.readlink(f'/proc/{self.child.pid}/exe')).startswith('qemu-')
+        return highest_memory(self.child) - (emulator_memory() if emulated else 0)
 
     def end(self):
         """Ends the input; whether the program ended by itself."""
@@ -94,6 +96,25 @@ def ends(child):
         child.kill()
         child.wait()
         return False
+
+
+def highest_memory(child):
+    with open(f'/proc/{child.pid}/status', encoding='ascii') as f:
+        return int(re.search(r'VmHWM:\s*(\d+) kB', f.read()).group(1))
+
+
+def emulator_memory():
+    """What the emulator takes before the program's first instruction, where it waits for a debugger if it is told of one."""
+    with tempfile.TemporaryDirectory() as folder:
+        socket = os.path.join(folder, 'debugger')
+        child = subprocess.Popen([REPLAY], stdin=subprocess.DEVNULL, stdout=subprocess.DEVNULL, env={**os.environ, 'QEMU_GDB': socket})
+        began = time.monotonic()
+        while not os.path.exists(socket) and time.monotonic() < began + PATIENCE:
+            time.sleep(0.01)
+        memory = highest_memory(child) if os.path.exists(socket) else 0
+        child.kill()
+        child.wait()
+        return memory
 
 
 def replied(recording, length):

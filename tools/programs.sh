@@ -3,8 +3,21 @@
 # rt has target/ to itself and empties it.
 export CARGO_TARGET_DIR=build/cargo
 
+# Rattle builds for x86-64. On another processor an emulator runs what it built, and tools/emulated has the replay program and the
+# commands that build hosts, under their usual names. `to_run` and `to_link` are the packages that this takes.
+case $(uname -m) in
+x86_64) emulated='' to_run='' to_link='' ;;
+*)
+    emulated=tools/emulated
+    # The plainest one: on others the C library copies by rep movsb, which the emulator does byte by byte.
+    export QEMU_CPU=qemu64
+    to_run='qemu-user libc6:amd64'
+    to_link='gcc-x86-64-linux-gnu libc6-dev-amd64-cross libubsan1:amd64 cargo-web rustc-web libstd-rust-web-dev:amd64'
+    ;;
+esac
+
 # REPLAY names another program to try in the proved one's place, which is then not built.
-replay=${REPLAY:-target/bin/replay}
+replay=${REPLAY:-${emulated:-target/bin}/replay}
 second=$CARGO_TARGET_DIR/release/second
 differential=$CARGO_TARGET_DIR/release/differential
 # THINNAROM_LIBRARY likewise names another library.
@@ -27,6 +40,11 @@ build_library() {
     echo 'proving and building target/staticlib/libthinnarom.a (some minutes the first time)'
     mkdir -p build
     rt staticlib thinnarom >build/library.log 2>&1 || { cat build/library.log; return 1; }
+}
+
+# From here on cc, nm and cargo are those for the library's processor.
+build_for_library() {
+    [ -z "$emulated" ] || PATH=$PWD/$emulated:$PATH
 }
 
 # Builds a host in C over the library, with these further flags and sources.
