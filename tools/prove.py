@@ -42,7 +42,7 @@ KIT = {
     'native.Mathlib.Nat': 'mul-pos min-eq-left min-eq-right',
     'mathlib.Core.Path': '_≡_ refl sym ap _∙_',
     'mathlib.Core.Bool': 'Bool true false',
-    'mathlib.Core.List': 'List [] _∷_ _++_',
+    'mathlib.Core.List': 'List [] _∷_ _++_ append-assoc',
     'Prim.Native.Nat': 'ℕ _+_ _-_ _*_ _/_ _%_ _≤_ _<_',
     'lib.ListN': 'length getD take drop set replicate length-set length-take length-drop',
     'lib.Seq': 'paste length-take-le sets length-sets',

@@ -1,6 +1,7 @@
 -- Data words in bulk over lent bytes: as many single words of the device that the bytes hold, written back.
 use Prim.Native.Nat.{ℕ, _*_}
 use mathlib.Core.Path.{_≡_}
+use mathlib.Core.Bool.{Bool}
 use mathlib.Core.List.{List, []}
 use lib.Dec.{eqb}
 use lib.ListN.{length, take, drop}
@@ -88,9 +89,9 @@ writeLent b x m ws = letIn b x m (writesAdmitted b x m ws) (admissionOf b m)
 abbrev pub lastStep : List ℕ → List ℕ → Hot → Settled → ℕ → List ℕ → Step
 lastStep b x h s w m = aloneOf (deviceWith h s x (secretsStored b)) m (WriteWord w)
 
--- and what it leaves
-pub record LastWord (b x : List ℕ) (h : Hot) (s : Settled) (w : ℕ) (m : List ℕ) (r : ℕ) (b' x' m' : List ℕ) : Type 0 where
-  pub number : r ≡ lastStep b x h s w m .outcome .number
-  pub state : b' ≡ stateOf (lastStep b x h s w m .outcome .device)
-  pub buffer : x' ≡ lastStep b x h s w m .outcome .device .face .buffer
-  pub sectors : m' ≡ lastStep b x h s w m .sectors
+-- whether it is taken, and what it then leaves; turned away, it leaves everything
+pub record LastWord (b x : List ℕ) (h : Hot) (s : Settled) (w : ℕ) (m : List ℕ) (r : Bool) (b' x' m' : List ℕ) : Type 0 where
+  pub taken : r ≡ eqb (lastStep b x h s w m .outcome .number) 0
+  pub state : b' ≡ pick r (stateOf (lastStep b x h s w m .outcome .device)) b
+  pub buffer : x' ≡ pick r (lastStep b x h s w m .outcome .device .face .buffer) x
+  pub sectors : m' ≡ pick r (lastStep b x h s w m .sectors) m

@@ -1,16 +1,18 @@
 // Data words in bulk over a device as lent bytes.
 ghost use mathlib.Core.Path.{_≡_};
+ghost use mathlib.Core.Bool.{true, false};
 ghost use Prim.Native.Nat.{_/_, _≤_};
 ghost use lib.ListN.{length};
-ghost use Rattle.transfers.specs.Sectors.{Memory};
 ghost use Rattle.lent.specs.Lent.{Admitted, GivesBack};
 ghost use Rattle.words.specs.Words.{wordsIn};
+ghost use Rattle.words.specs.Blocks.{takesHere};
 ghost use Rattle.bulk.specs.Bulk.{countedReply, LastWord, readsAdmitted, wordsAdmitted, readLent, wordsLent, ReadsLent, writesAdmitted, writeLent};
 use device::Device;
-use face::Action;
 use face::Answer;
 use face::Face;
 use face::Hot;
+use face::PasswordBlock;
+use face::Transfer;
 use lent::Reply;
 use lock::Secrets;
 use settled::Settled;
@@ -58,17 +60,18 @@ pub fn read_words(state: &mut [u8], buffer: &mut [u8; 512], sectors: &[u8], out:
     lent::refused(answer)
 }
 
-// A word that takes the whole device, whose hot part is held apart: the answer's number.
-fn last_word(
+// A password block's word, which may take the whole device, whose hot part is held apart.
+fn block_word(
     state: &mut [u8],
     buffer: &mut [u8; 512],
     hot: Hot,
     settled: Settled,
+    taking: PasswordBlock,
     w: u16,
     sectors: &mut [u8],
-) -> u8
-    requires { ⌜ (length (now state) ≡ 163) × Memory (settled .geometry) (settled .translation) (now sectors) ⌝ }
-    ensures { λ r. ⌜ LastWord (now (state .entry)) (now (buffer .entry)) hot settled w (now (sectors .entry)) r (now (state .exit)) (now (buffer .exit)) (now (sectors .exit)) ⌝ }
+)
+    requires { ⌜ (length (now state) ≡ 163) × (hot .transfer ≡ Transfer.TakingPassword taking) ⌝ }
+    ensures { λ _. ⌜ LastWord (now (state .entry)) (now (buffer .entry)) hot settled w (now (sectors .entry)) true (now (state .exit)) (now (buffer .exit)) (now (sectors .exit)) ⌝ }
 {
     let user = layout::password_at(state, 99);
     let master = layout::password_at(state, 131);
@@ -79,11 +82,36 @@ fn last_word(
         settled,
         buffer: block,
     };
-    let device = Device { face, secrets };
-    let outcome = device.act(Action::WriteWord(w), sectors);
-    let number = outcome.number;
-    layout::put_device(state, buffer, outcome.device);
-    number
+    let left = password::password_word(face, secrets, taking, w, sectors);
+    let face = left.face;
+    let secrets = left.secrets;
+    layout::put_device(state, buffer, Device { face, secrets });
+}
+
+// The word that is not taken in with those before it: a password block's last, or one that is turned away. Whether it is taken.
+fn last_word(
+    state: &mut [u8],
+    buffer: &mut [u8; 512],
+    hot: Hot,
+    settled: Settled,
+    w: u16,
+    sectors: &mut [u8],
+) -> bool
+    requires { ⌜ (length (now state) ≡ 163) × (takesHere (hot .transfer) ≡ false) ⌝ }
+    ensures { λ r. ⌜ LastWord (now (state .entry)) (now (buffer .entry)) hot settled w (now (sectors .entry)) r (now (state .exit)) (now (buffer .exit)) (now (sectors .exit)) ⌝ }
+{
+    let transfer = hot.transfer;
+    match transfer {
+        Transfer::Idle => false,
+        Transfer::Reading(r) => false,
+        Transfer::Writing(r) => false,
+        Transfer::ReadingBuffer(n) => false,
+        Transfer::WritingBuffer(n) => false,
+        Transfer::TakingPassword(b) => {
+            block_word(state, buffer, hot, settled, b, w, sectors);
+            true
+        }
+    }
 }
 
 // Words are written to a device in shape over its memory.
@@ -104,10 +132,10 @@ pub fn write_admitted(
     let far = passed.hot;
     if count < wanted {
         let w = base::pair(bytes[2 * count], bytes[2 * count + 1]);
-        let number = last_word(state, buffer, far, settled, w, sectors);
-        if number == 0 {
+        if last_word(state, buffer, far, settled, w, sectors) {
             return counted(count + 1, wanted);
         }
+        layout::put_hot(state, far);
         return counted(count, wanted);
     }
     layout::put_hot(state, far);

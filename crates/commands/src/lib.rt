@@ -1,29 +1,40 @@
 // The commands that are no sector transfers, each behind its own definition, and the one gate that every Command write goes through.
+// Only the drop of a password block, READ SECTORS and IDENTIFY touch the buffer: it is lent to them, and stays where it is for the others.
 ghost use mathlib.Core.Path.{_≡_};
+ghost use mathlib.Core.List.{List};
+ghost use Prim.Native.Nat.{ℕ};
+ghost use Rattle.face.specs.Face.{faceWith};
 ghost use Rattle.transfers.specs.Sectors.{Memory};
 ghost use Rattle.commands.specs.Others.{seekOf, recalibratedAt, recalibrateOf, initializeParametersOf, diagnosticOf, identifyDeviceOf, readBufferOf, writeBufferOf, takePasswordOf, erasePrepareOf, freezeLockOf};
 ghost use Rattle.commands.specs.Gate.{begunOf, abortAtOnce, runOf, stationsOf, commandOf};
 use address::Address;
 use address::AddressRegisters;
 use codes::Command;
-use face::Face;
+use face::Front;
+use face::Hot;
 use face::PasswordBlock;
 use face::Transfer;
 use geometry::Initialized;
 use lock::Purpose;
+use settled::Settled;
+
+// A command that leaves the settled part as it is.
+fn keeps(settled: Settled, hot: Hot) -> Front
+    ensures { λ r. ⌜ (r .hot ≡ hot) × (r .settled ≡ settled) ⌝ }
+{
+    Front { hot, settled }
+}
 
 // SEEK (70h to 7Fh).
-fn seek(face: Face) -> Face
-    ensures { λ r. ⌜ r ≡ seekOf face ⌝ }
+fn seek(hot: Hot, settled: Settled) -> Hot
+    ensures { λ r. ⌜ ((b : List ℕ) → faceWith r settled b ≡ seekOf (faceWith hot settled b)) ⌝ }
 {
-    let hot = face.hot;
-    let settled = face.settled;
     let regs = hot.regs;
     let at = regs.at;
     let Address::Names(sector) = transfers::located(settled, at) else {
-        return face.with_hot(hot.fail(0x10));
+        return hot.fail(0x10);
     };
-    transfers::finish(face)
+    hot.finish()
 }
 
 fn recalibrated_at(at: AddressRegisters) -> AddressRegisters
@@ -39,163 +50,167 @@ fn recalibrated_at(at: AddressRegisters) -> AddressRegisters
 }
 
 // RECALIBRATE (10h to 1Fh).
-fn recalibrate(face: Face) -> Face
-    ensures { λ r. ⌜ r ≡ recalibrateOf face ⌝ }
+fn recalibrate(hot: Hot) -> Hot
+    ensures { λ r. ⌜ ((s : Settled) → (b : List ℕ) → faceWith r s b ≡ recalibrateOf (faceWith hot s b)) ⌝ }
 {
-    let hot = face.hot;
     let regs = hot.regs;
     let at = recalibrated_at(regs.at);
-    face.with_hot(hot.ended_at(at, regs.count).finish())
+    hot.ended_at(at, regs.count).finish()
 }
 
 // INITIALIZE DEVICE PARAMETERS (91h).
-fn initialize_parameters(face: Face) -> Face
-    ensures { λ r. ⌜ r ≡ initializeParametersOf face ⌝ }
+fn initialize_parameters(hot: Hot, settled: Settled) -> Front
+    ensures { λ r. ⌜ ((b : List ℕ) → faceWith (r .hot) (r .settled) b ≡ initializeParametersOf (faceWith hot settled b)) ⌝ }
 {
-    let hot = face.hot;
-    let settled = face.settled;
     let geometry = settled.geometry;
     let regs = hot.regs;
     let Initialized::To(translation) = geometry.initialize(regs.count, regs.at.head) else {
-        return transfers::abort(face);
+        return keeps(settled, hot.abort());
     };
-    transfers::finish(face).with_settled(settled.with_translation(translation))
+    keeps(settled.with_translation(translation), hot.finish())
 }
 
 // EXECUTE DEVICE DIAGNOSTIC (90h).
-fn diagnostic(face: Face) -> Face
-    ensures { λ r. ⌜ r ≡ diagnosticOf face ⌝ }
+fn diagnostic(hot: Hot) -> Hot
+    ensures { λ r. ⌜ ((s : Settled) → (b : List ℕ) → faceWith r s b ≡ diagnosticOf (faceWith hot s b)) ⌝ }
 {
-    let hot = face.hot;
-    face.with_hot(hot.restarted().finish())
+    hot.restarted().finish()
 }
 
 // IDENTIFY DEVICE (ECh).
-fn identify_device(face: Face) -> Face
-    ensures { λ r. ⌜ r ≡ identifyDeviceOf face ⌝ }
+fn identify_device(hot: Hot, settled: Settled, buffer: &mut [u8; 512]) -> Hot
+    ensures { λ r. ⌜ faceWith r settled (now (buffer .exit)) ≡ identifyDeviceOf (faceWith hot settled (now (buffer .entry))) ⌝ }
 {
-    let hot = face.hot;
-    let settled = face.settled;
     let words = identify::identify(settled);
-    face.with_hot(hot.raised(Transfer::ReadingBuffer(0)))
-        .with_buffer(words)
+    *buffer = words;
+    hot.raised(Transfer::ReadingBuffer(0))
 }
 
 // READ BUFFER (E4h).
-fn read_buffer(face: Face) -> Face
-    ensures { λ r. ⌜ r ≡ readBufferOf face ⌝ }
+fn read_buffer(hot: Hot) -> Hot
+    ensures { λ r. ⌜ ((s : Settled) → (b : List ℕ) → faceWith r s b ≡ readBufferOf (faceWith hot s b)) ⌝ }
 {
-    let hot = face.hot;
-    face.with_hot(hot.raised(Transfer::ReadingBuffer(0)))
+    hot.raised(Transfer::ReadingBuffer(0))
 }
 
 // WRITE BUFFER (E8h).
-fn write_buffer(face: Face) -> Face
-    ensures { λ r. ⌜ r ≡ writeBufferOf face ⌝ }
+fn write_buffer(hot: Hot) -> Hot
+    ensures { λ r. ⌜ ((s : Settled) → (b : List ℕ) → faceWith r s b ≡ writeBufferOf (faceWith hot s b)) ⌝ }
 {
-    let hot = face.hot;
-    face.with_hot(hot.with_transfer(Transfer::WritingBuffer(0)))
+    hot.with_transfer(Transfer::WritingBuffer(0))
 }
 
 // F1h, F2h, F4h and F6h take a password block.
-fn take_password(face: Face, purpose: Purpose) -> Face
-    ensures { λ r. ⌜ r ≡ takePasswordOf face purpose ⌝ }
+fn take_password(hot: Hot, purpose: Purpose) -> Hot
+    ensures { λ r. ⌜ ((s : Settled) → (b : List ℕ) → faceWith r s b ≡ takePasswordOf (faceWith hot s b) purpose) ⌝ }
 {
-    let hot = face.hot;
     let block = PasswordBlock { purpose, word: 0 };
-    face.with_hot(hot.with_transfer(Transfer::TakingPassword(block)))
+    hot.with_transfer(Transfer::TakingPassword(block))
 }
 
 // SECURITY ERASE PREPARE (F3h).
-fn erase_prepare(face: Face) -> Face
-    ensures { λ r. ⌜ r ≡ erasePrepareOf face ⌝ }
+fn erase_prepare(hot: Hot, settled: Settled) -> Front
+    ensures { λ r. ⌜ ((b : List ℕ) → faceWith (r .hot) (r .settled) b ≡ erasePrepareOf (faceWith hot settled b)) ⌝ }
 {
-    let settled = face.settled;
     let security = settled.security;
-    transfers::finish(face).with_settled(settled.with_security(security.prepare()))
+    keeps(settled.with_security(security.prepare()), hot.finish())
 }
 
 // SECURITY FREEZE LOCK (F5h).
-fn freeze_lock(face: Face) -> Face
-    ensures { λ r. ⌜ r ≡ freezeLockOf face ⌝ }
+fn freeze_lock(hot: Hot, settled: Settled) -> Front
+    ensures { λ r. ⌜ ((b : List ℕ) → faceWith (r .hot) (r .settled) b ≡ freezeLockOf (faceWith hot settled b)) ⌝ }
 {
-    let settled = face.settled;
     let security = settled.security;
-    transfers::finish(face).with_settled(settled.with_security(security.freeze()))
+    keeps(settled.with_security(security.freeze()), hot.finish())
 }
 
 // A command that nothing bars.
-fn run(face: Face, command: Command, sectors: &[u8]) -> Face
-    requires { ⌜ Memory (face .settled .geometry) (face .settled .translation) (now sectors) ⌝ }
-    ensures { λ r. ⌜ r ≡ runOf face (now (sectors .entry)) command ⌝ }
+fn run(
+    hot: Hot,
+    settled: Settled,
+    command: Command,
+    buffer: &mut [u8; 512],
+    sectors: &[u8],
+) -> Front
+    requires { ⌜ Memory (settled .geometry) (settled .translation) (now sectors) ⌝ }
+    ensures { λ r. ⌜ faceWith (r .hot) (r .settled) (now (buffer .exit)) ≡ runOf (faceWith hot settled (now (buffer .entry))) (now (sectors .entry)) command ⌝ }
 {
     match command {
-        Command::Unknown => transfers::abort(face),
-        Command::Recalibrate => recalibrate(face),
-        Command::ReadSectors => reading::read_sectors(face, sectors),
-        Command::WriteSectors => writing::write_sectors(face),
-        Command::VerifySectors => reading::verify_sectors(face),
-        Command::Seek => seek(face),
-        Command::ExecuteDiagnostic => diagnostic(face),
-        Command::InitializeParameters => initialize_parameters(face),
-        Command::ReadBuffer => read_buffer(face),
-        Command::WriteBuffer => write_buffer(face),
-        Command::IdentifyDevice => identify_device(face),
-        Command::SecuritySetPassword => take_password(face, Purpose::Set),
-        Command::SecurityUnlock => take_password(face, Purpose::Unlock),
-        Command::SecurityErasePrepare => erase_prepare(face),
-        Command::SecurityEraseUnit => take_password(face, Purpose::Erase),
-        Command::SecurityFreezeLock => freeze_lock(face),
-        Command::SecurityDisablePassword => take_password(face, Purpose::Disable),
+        Command::Unknown => keeps(settled, hot.abort()),
+        Command::Recalibrate => keeps(settled, recalibrate(hot)),
+        Command::ReadSectors => keeps(
+            settled,
+            reading::read_sectors(hot, settled, buffer, sectors),
+        ),
+        Command::WriteSectors => keeps(settled, writing::write_sectors(hot, settled)),
+        Command::VerifySectors => keeps(settled, reading::verify_sectors(hot, settled)),
+        Command::Seek => keeps(settled, seek(hot, settled)),
+        Command::ExecuteDiagnostic => keeps(settled, diagnostic(hot)),
+        Command::InitializeParameters => initialize_parameters(hot, settled),
+        Command::ReadBuffer => keeps(settled, read_buffer(hot)),
+        Command::WriteBuffer => keeps(settled, write_buffer(hot)),
+        Command::IdentifyDevice => keeps(settled, identify_device(hot, settled, buffer)),
+        Command::SecuritySetPassword => keeps(settled, take_password(hot, Purpose::Set)),
+        Command::SecurityUnlock => keeps(settled, take_password(hot, Purpose::Unlock)),
+        Command::SecurityErasePrepare => erase_prepare(hot, settled),
+        Command::SecurityEraseUnit => keeps(settled, take_password(hot, Purpose::Erase)),
+        Command::SecurityFreezeLock => freeze_lock(hot, settled),
+        Command::SecurityDisablePassword => keeps(settled, take_password(hot, Purpose::Disable)),
     }
 }
 
 // The transfer dropped, Error and interrupt cleared.
-fn begun(face: Face) -> Face
-    ensures { λ r. ⌜ r ≡ begunOf face ⌝ }
+fn begun(hot: Hot, settled: Settled, buffer: &mut [u8; 512]) -> Front
+    ensures { λ r. ⌜ faceWith (r .hot) (r .settled) (now (buffer .exit)) ≡ begunOf (faceWith hot settled (now (buffer .entry))) ⌝ }
 {
-    let dropped = resets::drop_transfer(face);
-    let hot = dropped.hot;
-    dropped.with_hot(hot.cleared())
+    let dropped = resets::drop_transfer(hot, settled, buffer);
+    let left = dropped.hot;
+    keeps(dropped.settled, left.cleared())
 }
 
 // A command that may not run; F4h's abort ends the preparation.
-fn abort_at_once(face: Face, code: u8) -> Face
-    ensures { λ r. ⌜ r ≡ abortAtOnce face code ⌝ }
+fn abort_at_once(hot: Hot, settled: Settled, code: u8) -> Front
+    ensures { λ r. ⌜ ((b : List ℕ) → faceWith (r .hot) (r .settled) b ≡ abortAtOnce (faceWith hot settled b) code) ⌝ }
 {
     if code == 0xF4 {
-        let settled = face.settled;
-        let security = settled.security;
-        return transfers::abort(face).with_settled(settled.with_security(security.unprepare()));
+        return keeps(settled.unprepare(), hot.abort());
     }
-    transfers::abort(face)
+    keeps(settled, hot.abort())
 }
 
 // Lock state, then attempts and preparation, then the command.
-fn stations(face: Face, code: u8, sectors: &[u8]) -> Face
-    requires { ⌜ Memory (face .settled .geometry) (face .settled .translation) (now sectors) ⌝ }
-    ensures { λ r. ⌜ r ≡ stationsOf face (now (sectors .entry)) code ⌝ }
+fn stations(front: Front, code: u8, buffer: &mut [u8; 512], sectors: &[u8]) -> Front
+    requires { ⌜ Memory (front .settled .geometry) (front .settled .translation) (now sectors) ⌝ }
+    ensures { λ r. ⌜ faceWith (r .hot) (r .settled) (now (buffer .exit)) ≡ stationsOf (faceWith (front .hot) (front .settled) (now (buffer .entry))) (now (sectors .entry)) code ⌝ }
 {
-    let settled = face.settled;
+    let hot = front.hot;
+    let settled = front.settled;
     let security = settled.security;
     let lock = security.lock;
     if codes::may_run(code, lock) {
         let command = codes::decode(code);
         if command.barred(security) {
-            return abort_at_once(face, code);
+            return abort_at_once(hot, settled, code);
         }
-        return run(face, command, sectors);
+        return run(hot, settled, command, buffer, sectors);
     }
-    abort_at_once(face, code)
+    abort_at_once(hot, settled, code)
 }
 
 // The gate: a write to the Command register, but for DEV.
-pub fn command(face: Face, code: u8, sectors: &[u8]) -> Face
-    requires { ⌜ Memory (face .settled .geometry) (face .settled .translation) (now sectors) ⌝ }
-    ensures { λ r. ⌜ r ≡ commandOf face (now (sectors .entry)) code ⌝ }
+pub fn command(
+    hot: Hot,
+    settled: Settled,
+    code: u8,
+    buffer: &mut [u8; 512],
+    sectors: &[u8],
+) -> Front
+    requires { ⌜ Memory (settled .geometry) (settled .translation) (now sectors) ⌝ }
+    ensures { λ r. ⌜ faceWith (r .hot) (r .settled) (now (buffer .exit)) ≡ commandOf (faceWith hot settled (now (buffer .entry))) (now (sectors .entry)) code ⌝ }
 {
-    if face.hot.signals.held {
-        return face;
+    if hot.signals.held {
+        return keeps(settled, hot);
     }
-    stations(begun(face), code, sectors)
+    let front = begun(hot, settled, buffer);
+    stations(front, code, buffer, sectors)
 }

@@ -43,7 +43,7 @@ fn fresh(geometry: Geometry, identity: Identity, master: [u8; 32]) -> Device
     ensures { λ r. ⌜ r ≡ freshOf geometry identity master ⌝ }
 {
     let settled = settled::fresh(geometry, identity);
-    let face = resets::powered_on(face::zero_face().with_settled(settled));
+    let face = disk::powered_on(face::zero_face().with_settled(settled));
     let secrets = Secrets::fresh(master);
     Device { face, secrets }
 }

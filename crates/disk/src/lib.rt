@@ -3,8 +3,11 @@ ghost use mathlib.Core.Path.{_≡_};
 ghost use Rattle.face.specs.Face.{withHot};
 ghost use Rattle.face.specs.Reads.{readRegister, lineOf};
 ghost use Rattle.face.specs.Writes.{putRegister};
+ghost use Rattle.resets.specs.Resets.{poweredOnFace};
+ghost use Rattle.resets.specs.Control.{controlOf};
 ghost use Rattle.transfers.specs.Sectors.{Memory};
 ghost use Rattle.transfers.specs.Words.{told};
+ghost use Rattle.commands.specs.Gate.{commandOf};
 ghost use Rattle.effects.specs.Effects.{acted, seenActed};
 ghost use Rattle.disk.specs.Actions.{toldActed, writeRegisterOf, writeWordOf, actOf};
 use effects::Acted;
@@ -57,6 +60,34 @@ fn written(face: Face) -> Told
     transfers::tells(face, Answer::Done, 0)
 }
 
+// The Command register is written.
+fn command_written(face: Face, code: u8, sectors: &[u8]) -> Face
+    requires { ⌜ Memory (face .settled .geometry) (face .settled .translation) (now sectors) ⌝ }
+    ensures { λ r. ⌜ r ≡ commandOf face (now (sectors .entry)) code ⌝ }
+{
+    let mut buffer = face.buffer;
+    let front = commands::command(face.hot, face.settled, code, &mut buffer, sectors);
+    front.with_buffer(buffer)
+}
+
+// Device Control is written.
+fn control_written(face: Face, v: u8) -> Face
+    ensures { λ r. ⌜ r ≡ controlOf face v ⌝ }
+{
+    let mut buffer = face.buffer;
+    let front = resets::control(face.hot, face.settled, v, &mut buffer);
+    front.with_buffer(buffer)
+}
+
+// Power-on and hardware reset.
+pub fn powered_on(face: Face) -> Face
+    ensures { λ r. ⌜ r ≡ poweredOnFace face ⌝ }
+{
+    let mut buffer = face.buffer;
+    let front = resets::powered_on(face.settled, &mut buffer);
+    front.with_buffer(buffer)
+}
+
 // A register is written.
 fn write_register(face: Face, n: u8, v: u8, sectors: &[u8]) -> Told
     requires { ⌜ Memory (face .settled .geometry) (face .settled .translation) (now sectors) ⌝ }
@@ -66,10 +97,10 @@ fn write_register(face: Face, n: u8, v: u8, sectors: &[u8]) -> Told
         return written(register_put(face, n, v));
     }
     if n == 7 {
-        return written(commands::command(face, v, sectors));
+        return written(command_written(face, v, sectors));
     }
     if n == 8 {
-        return written(resets::control(face, v));
+        return written(control_written(face, v));
     }
     transfers::tells(face, Answer::NoRegister, 0)
 }
@@ -112,8 +143,8 @@ pub fn act(face: Face, secrets: Secrets, action: Action, sectors: &mut [u8]) -> 
         Action::WriteRegister(n, v) => told_acts(secrets, write_register(face, n, v, &sectors[..])),
         Action::ReadWord => told_acts(secrets, reading::read_word(face, &sectors[..])),
         Action::WriteWord(w) => write_word(face, secrets, w, sectors),
-        Action::HardwareReset => effects::done(resets::powered_on(face), secrets),
-        Action::PowerOn => effects::done(resets::powered_on(face), secrets),
+        Action::HardwareReset => effects::done(powered_on(face), secrets),
+        Action::PowerOn => effects::done(powered_on(face), secrets),
         Action::Line => line_read(face, secrets),
     }
 }

@@ -49,6 +49,10 @@ withSignals h s = record { regs = h .regs; signals = s; transfer = h .transfer }
 abbrev pub withTransfer : Hot → Transfer → Hot
 withTransfer h t = record { regs = h .regs; signals = h .signals; transfer = t }
 
+-- a face of these parts
+abbrev pub faceWith : Hot → Settled → List ℕ → Face
+faceWith h s b = record { hot = h; settled = s; buffer = b }
+
 -- with another hot part
 abbrev pub withHot : Face → Hot → Face
 withHot f h = record { hot = h; settled = f .settled; buffer = f .buffer }

@@ -2,10 +2,10 @@
 ghost use mathlib.Core.Path.{_≡_};
 ghost use Prim.Native.Nat.{_<_};
 ghost use Rattle.face.specs.Registers.{startRegisters};
-ghost use Rattle.face.specs.Face.{noSignals, startHot, withRegs, withTransfer, withHot, withSettled, withBuffer, nextWord, nextPasswordWord};
+ghost use Rattle.face.specs.Face.{noSignals, startHot, withRegs, withTransfer, faceWith, withHot, withSettled, withBuffer, nextWord, nextPasswordWord};
 ghost use Rattle.face.specs.Reads.{numberOf, valueOf, isIdle, statusOf, seen, quietOf, readRegister, lineOf};
 ghost use Rattle.face.specs.Writes.{busyOf, storeRegister, putRegister};
-ghost use Rattle.face.specs.Ends.{clearedOf, raisedOf, finishOf, failOf, endedAt};
+ghost use Rattle.face.specs.Ends.{clearedOf, raisedOf, finishOf, failOf, abortOf, endedAt};
 ghost use Rattle.face.specs.Setup.{zeroHot, zeroFace};
 use address::AddressRegisters;
 use lock::Purpose;
@@ -27,17 +27,18 @@ pub struct Signals {
     pub failed: bool,
 }
 
-// A sector transfer: its current sector's address, how many sectors come after that one, and the place of the next word.
+// A sector transfer: the place of the next word, how many sectors come after the current one, and that one's address.
+// The place is the first byte of every transfer that has one: so they share their bytes and stay in registers.
 pub struct Run {
-    pub at: AddressRegisters,
-    pub after: u8,
     pub word: u8,
+    pub after: u8,
+    pub at: AddressRegisters,
 }
 
-// A password block on its way: what it is for, and the place of the next word.
+// A password block on its way: the place of the next word, and what the block is for.
 pub struct PasswordBlock {
-    pub purpose: Purpose,
     pub word: u8,
+    pub purpose: Purpose,
 }
 
 // The transfer that is open. READ BUFFER and IDENTIFY both hand the buffer out.
@@ -61,6 +62,12 @@ pub struct Face {
     pub hot: Hot,
     pub settled: Settled,
     pub buffer: [u8; 512],
+}
+
+// The face but for its buffer, which is lent to what may change it.
+pub struct Front {
+    pub hot: Hot,
+    pub settled: Settled,
 }
 
 // The host's actions.
@@ -353,6 +360,13 @@ impl Hot {
         self.raised(Transfer::Idle)
     }
 
+    // A command aborts.
+    pub fn abort(self) -> Hot
+        ensures { λ r. ⌜ r ≡ abortOf self ⌝ }
+    {
+        self.fail(0x04)
+    }
+
     // Registers 2 to 6 where a sector command ends.
     pub fn ended_at(self, at: AddressRegisters, count: u8) -> Hot
         ensures { λ r. ⌜ r ≡ endedAt self at count ⌝ }
@@ -388,6 +402,20 @@ impl PasswordBlock {
     {
         self.word = self.word + 1;
         self
+    }
+}
+
+impl Front {
+    pub fn with_buffer(self, buffer: [u8; 512]) -> Face
+        ensures { λ r. ⌜ r ≡ faceWith (self .hot) (self .settled) buffer ⌝ }
+    {
+        let hot = self.hot;
+        let settled = self.settled;
+        Face {
+            hot,
+            settled,
+            buffer,
+        }
     }
 }
 

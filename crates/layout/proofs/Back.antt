@@ -159,7 +159,7 @@ numbers-back b f p q =
 split : (b : List ℕ) (n i : ℕ) → take n (drop i b) ++ drop (i + n) b ≡ drop i b
 split b n i = ap (λ (l : List ℕ). take n (drop i b) ++ l) (sym (drop-drop n i b)) ∙ take-append-drop n (drop i b)
 
-secrets-back : (b : List ℕ) → Formed b → secretsBytes (secretsStored b) ≡ drop 99 b
+pub secrets-back : (b : List ℕ) → Formed b → secretsBytes (secretsStored b) ≡ drop 99 b
 secrets-back b f =
     let l : length (drop 131 b) ≤ 32 = simp length-drop (omega (arith, f .long)) in
     ap (λ (l : List ℕ). take 32 (drop 99 b) ++ l) (take-all 32 (drop 131 b) l) ∙ split b 32 99

@@ -1,10 +1,10 @@
--- Bytes put one piece behind the other: what has been put so far is the front of the state.
+-- Bytes put one piece behind the other: pieces that meet are put as one.
 use mathlib.Core.Path.{_≡_, refl, sym, ap, _∙_}
-use mathlib.Core.List.{List, [], _++_, append-assoc}
-use Prim.Native.Nat.{ℕ, _+_, _≤_}
+use mathlib.Core.List.{List, [], _∷_, _++_, append-nil}
+use Prim.Native.Nat.{ℕ, suc, _+_, _≤_}
 use native.Mathlib.Omega.{arith}
-use lib.ListN.{length, take, drop, length-append}
-use lib.Seq.{sets, sets-eq, length-sets, take-at, take-all, take-length, length-take-le}
+use lib.ListN.{length, take, drop, set, length-append, drop-of-length-le}
+use lib.Seq.{sets, sets-eq, take-length}
 use Rattle.face.specs.declared.Transfer.{Transfer}
 use Rattle.face.specs.declared.Transfer.the-variants.{Idle, Reading, Writing, ReadingBuffer, WritingBuffer, TakingPassword}
 use Rattle.face.specs.declared.Hot.{Hot}
@@ -16,45 +16,54 @@ pub copied-sets : {d s out : List ℕ} {at j : ℕ} → Copied (length s) d s ou
 copied-sets {d} {s} {out} {at} {j} c h =
     copied-done c h ∙ ap (λ (x : List ℕ). take at d ++ x ++ drop (at + length s) d) (take-length s) ∙ sym (sets-eq s d at (c .room))
 
--- `piece` put behind the front
-put-next : (b front piece : List ℕ) (at n : ℕ) → length piece ≡ n → at + n ≤ length b → take at b ≡ front
-    → take (at + n) (sets b at piece) ≡ front ++ piece
-put-next b front piece at n k h e =
-    let r : at + length piece ≤ length b = omega (arith, k) in
-    let l : length (take at b ++ piece) ≡ at + n =
-    length-append (take at b) piece ∙ ap (λ (j : ℕ). j + length piece) (length-take-le at b (omega arith)) ∙ ap (λ (j : ℕ). at + j) k in
-    ap (take (at + n)) (sets-eq piece b at r)
-    ∙ take-at (take at b ++ piece) (drop (at + length piece) b) (at + n) l
-    ∙ ap (λ (x : List ℕ). x ++ piece) e
+-- a piece put right behind another is both put as one
+pub sets-append : (xs ys l : List ℕ) (i j : ℕ) → i + length xs ≡ j → sets (sets l i xs) j ys ≡ sets l i (xs ++ ys)
+sets-append [] ys l i j e = let q : j ≡ i = omega (arith, e) in ap (λ (k : ℕ). sets l k ys) q
+sets-append (x ∷ xs) ys l i j e = let q : suc i + length xs ≡ j = omega (arith, e) in sets-append xs ys (set l i x) (suc i) j q
 
--- seven pieces of these lengths, one behind the other, are the whole
-pub put-all : (b h n s f m u p : List ℕ) → length b ≡ 163 → length h ≡ 18 → length n ≡ 13 → length s ≡ 20 → length f ≡ 8 → length m ≡ 40
-    → length u ≡ 32 → length p ≡ 32
-    → sets (sets (sets (sets (sets (sets (sets b 0 h) 18 n) 31 s) 51 f) 59 m) 99 u) 131 p ≡ h ++ (n ++ ((s ++ (f ++ m)) ++ (u ++ p)))
-put-all b h n s f m u p lb lh ln ls lf lm lu lp =
-    let b1 = sets b 0 h in
-    let b2 = sets b1 18 n in
-    let b3 = sets b2 31 s in
-    let b4 = sets b3 51 f in
-    let b5 = sets b4 59 m in
-    let b6 = sets b5 99 u in
-    let b7 = sets b6 131 p in
-    let l1 : length b1 ≡ 163 = length-sets b 0 h ∙ lb in
-    let l2 : length b2 ≡ 163 = length-sets b1 18 n ∙ l1 in
-    let l3 : length b3 ≡ 163 = length-sets b2 31 s ∙ l2 in
-    let l4 : length b4 ≡ 163 = length-sets b3 51 f ∙ l3 in
-    let l5 : length b5 ≡ 163 = length-sets b4 59 m ∙ l4 in
-    let l6 : length b6 ≡ 163 = length-sets b5 99 u ∙ l5 in
-    let l7 : length b7 ≡ 163 = length-sets b6 131 p ∙ l6 in
-    let t1 : take 18 b1 ≡ h = put-next b [] h 0 18 lh (omega (arith, lb)) refl in
-    let t2 : take 31 b2 ≡ h ++ n = put-next b1 h n 18 13 ln (omega (arith, l1)) t1 in
-    let t3 : take 51 b3 ≡ h ++ n ++ s = put-next b2 (h ++ n) s 31 20 ls (omega (arith, l2)) t2 in
-    let t4 : take 59 b4 ≡ h ++ n ++ s ++ f = put-next b3 (h ++ n ++ s) f 51 8 lf (omega (arith, l3)) t3 in
-    let t5 : take 99 b5 ≡ h ++ n ++ s ++ f ++ m = put-next b4 (h ++ n ++ s ++ f) m 59 40 lm (omega (arith, l4)) t4 in
-    let t6 : take 131 b6 ≡ h ++ n ++ s ++ f ++ m ++ u = put-next b5 (h ++ n ++ s ++ f ++ m) u 99 32 lu (omega (arith, l5)) t5 in
-    let t7 : take 163 b7 ≡ h ++ n ++ s ++ f ++ m ++ u ++ p = put-next b6 (h ++ n ++ s ++ f ++ m ++ u) p 131 32 lp (omega (arith, l6)) t6 in
-    let w : take 163 b7 ≡ b7 = take-all 163 b7 (omega (arith, l7)) in
-    sym w ∙ t7 ∙ simp append-assoc
+-- the three pieces of an identity
+pub put-identity : (b s f m : List ℕ) → length s ≡ 20 → length f ≡ 8 → length m ≡ 40
+    → (sets (sets (sets b 31 s) 51 f) 59 m ≡ sets b 31 (s ++ (f ++ m))) × (length (s ++ (f ++ m)) ≡ 68)
+put-identity b s f m ls lf lm =
+    let at : 31 + length s ≡ 51 = omega (arith, ls) in
+    let next : 51 + length f ≡ 59 = omega (arith, lf) in
+    let e : length (s ++ (f ++ m)) ≡ length s + (length f + length m) = length-append s (f ++ m) ∙ ap (λ (n : ℕ). length s + n) (length-append f m) in
+    (sets-append f m (sets b 31 s) 51 59 next ∙ sets-append s (f ++ m) b 31 51 at, omega (arith, e, ls, lf, lm))
+
+-- the two passwords
+pub put-secrets : (b u p : List ℕ) → length u ≡ 32 → length p ≡ 32 → (sets (sets b 99 u) 131 p ≡ sets b 99 (u ++ p)) × (length (u ++ p) ≡ 64)
+put-secrets b u p lu lp =
+    let at : 99 + length u ≡ 131 = omega (arith, lu) in
+    let e = length-append u p in
+    (sets-append u p b 99 131 at, omega (arith, e, lu, lp))
+
+-- hot part, numbers and identity
+pub put-front : (b h n i : List ℕ) → length h ≡ 18 → length n ≡ 13 → length i ≡ 68
+    → (sets (sets (sets b 0 h) 18 n) 31 i ≡ sets b 0 (h ++ (n ++ i))) × (length (h ++ (n ++ i)) ≡ 99)
+put-front b h n i lh ln li =
+    let at : 0 + length h ≡ 18 = omega (arith, lh) in
+    let next : 18 + length n ≡ 31 = omega (arith, ln) in
+    let e : length (h ++ (n ++ i)) ≡ length h + (length n + length i) = length-append h (n ++ i) ∙ ap (λ (k : ℕ). length h + k) (length-append n i) in
+    (sets-append n i (sets b 0 h) 18 31 next ∙ sets-append h (n ++ i) b 0 18 at, omega (arith, e, lh, ln, li))
+
+-- the front's bytes, put over a state, and all that was behind them
+pub front-over : (b f : List ℕ) → length b ≡ 163 → length f ≡ 99 → sets b 0 f ≡ f ++ drop 99 b
+front-over b f lb lf =
+    let w : 0 + length f ≤ length b = omega (arith, lb, lf) in
+    let e : 0 + length f ≡ 99 = omega (arith, lf) in
+    sets-eq f b 0 w ∙ ap (λ (k : ℕ). f ++ drop k b) e
+
+-- and the passwords behind them are the whole
+pub put-all : (b f x : List ℕ) → length b ≡ 163 → length f ≡ 99 → length x ≡ 64 → sets (sets b 0 f) 99 x ≡ f ++ x
+put-all b f x lb lf lx =
+    let at : 0 + length f ≡ 99 = omega (arith, lf) in
+    let e = length-append f x in
+    let w : 0 + length (f ++ x) ≤ length b = omega (arith, e, lb, lf, lx) in
+    let none : length b ≤ 0 + length (f ++ x) = omega (arith, e, lb, lf, lx) in
+    sets-append f x b 0 99 at
+    ∙ sets-eq (f ++ x) b 0 w
+    ∙ ap (λ (l : List ℕ). f ++ x ++ l) (drop-of-length-le b none)
+    ∙ append-nil (f ++ x)
 
 pub hot-bytes-long : (h : Hot) → length (hotBytes h) ≡ 18
 hot-bytes-long h = long (h .transfer)

@@ -70,6 +70,10 @@ numberBytes s =
 abbrev pub identityBytes : Identity → List ℕ
 identityBytes i = i .serial ++ (i .firmware ++ i .model)
 
+-- bytes 0 to 98
+abbrev pub frontBytes : Hot → Settled → List ℕ
+frontBytes h s = hotBytes h ++ (numberBytes s ++ identityBytes (s .identity))
+
 -- bytes 99 to 162
 abbrev pub secretsBytes : Secrets → List ℕ
 secretsBytes x = x .user ++ x .master

@@ -3,11 +3,11 @@ ghost use mathlib.Core.Path.{_≡_};
 ghost use Prim.Native.Nat.{_+_, _≤_};
 ghost use lib.ListN.{length, take, drop};
 ghost use lib.Seq.{sets};
-ghost use Rattle.layout.specs.Stored.{addressStored, registersStored, markStored, signalsStored, runStored, blockOf, transferStored, hotStored, geometryStored, translationStored, lockStored, securityStored, identityStored, settledStored, deviceStored, marksFormed, noRunStored, transferFormed, formedOf};
-ghost use Rattle.layout.specs.Bytes.{markByte, runBytes, placeBytes, purposeKind, transferBytes, hotBytes, lockByte, numberBytes, stateOf};
+ghost use Rattle.layout.specs.Stored.{addressStored, registersStored, markStored, signalsStored, runStored, blockOf, transferStored, hotStored, geometryStored, translationStored, lockStored, securityStored, identityStored, settledStored, marksFormed, noRunStored, transferFormed, formedOf};
+ghost use Rattle.layout.specs.Bytes.{markByte, runBytes, placeBytes, purposeKind, transferBytes, hotBytes, lockByte, numberBytes, identityBytes, frontBytes, secretsBytes, stateOf};
 use address::AddressRegisters;
 use device::Device;
-use face::Face;
+use face::Front;
 use face::Hot;
 use face::PasswordBlock;
 use face::Registers;
@@ -222,25 +222,6 @@ pub fn password_at(bytes: &[u8], at: usize) -> [u8; 32]
     password
 }
 
-// The device that state and buffer hold.
-pub fn device_at(state: &[u8], buffer: &[u8; 512]) -> Device
-    requires { ⌜ length (now state) ≡ 163 ⌝ }
-    ensures { λ r. ⌜ r ≡ deviceStored (now (state .entry)) (now (buffer .entry)) ⌝ }
-{
-    let hot = hot_at(state);
-    let settled = settled_at(state);
-    let buffer = *buffer;
-    let face = Face {
-        hot,
-        settled,
-        buffer,
-    };
-    let user = password_at(state, 99);
-    let master = password_at(state, 131);
-    let secrets = Secrets { user, master };
-    Device { face, secrets }
-}
-
 fn marks_fit(state: &[u8]) -> bool
     requires { ⌜ length (now state) ≡ 163 ⌝ }
     ensures { λ r. ⌜ r ≡ marksFormed (now (state .entry)) ⌝ }
@@ -414,8 +395,7 @@ fn put_bytes(state: &mut [u8], at: usize, bytes: &[u8])
 
 fn put_identity(state: &mut [u8], identity: Identity)
     requires { ⌜ length (now state) ≡ 163 ⌝ }
-    ensures { λ _. ⌜ (now (state .exit) ≡ sets (sets (sets (now (state .entry)) 31 (identity .serial)) 51 (identity .firmware)) 59 (identity .model))
-        × ((length (identity .serial) ≡ 20) × ((length (identity .firmware) ≡ 8) × (length (identity .model) ≡ 40))) ⌝ }
+    ensures { λ _. ⌜ (now (state .exit) ≡ sets (now (state .entry)) 31 (identityBytes identity)) × (length (identityBytes identity) ≡ 68) ⌝ }
 {
     let serial = identity.serial;
     let firmware = identity.firmware;
@@ -427,13 +407,24 @@ fn put_identity(state: &mut [u8], identity: Identity)
 
 fn put_secrets(state: &mut [u8], secrets: Secrets)
     requires { ⌜ length (now state) ≡ 163 ⌝ }
-    ensures { λ _. ⌜ (now (state .exit) ≡ sets (sets (now (state .entry)) 99 (secrets .user)) 131 (secrets .master))
-        × ((length (secrets .user) ≡ 32) × (length (secrets .master) ≡ 32)) ⌝ }
+    ensures { λ _. ⌜ (now (state .exit) ≡ sets (now (state .entry)) 99 (secretsBytes secrets)) × (length (secretsBytes secrets) ≡ 64) ⌝ }
 {
     let user = secrets.user;
     let master = secrets.master;
     put_bytes(state, 99, &user);
     put_bytes(state, 131, &master);
+}
+
+// Bytes 0 to 98 become those of hot and settled part.
+pub fn put_front(state: &mut [u8], front: Front)
+    requires { ⌜ length (now state) ≡ 163 ⌝ }
+    ensures { λ _. ⌜ (now (state .exit) ≡ sets (now (state .entry)) 0 (frontBytes (front .hot) (front .settled))) × (length (frontBytes (front .hot) (front .settled)) ≡ 99) ⌝ }
+{
+    let hot = front.hot;
+    let settled = front.settled;
+    put_hot(state, hot);
+    put_numbers(state, settled);
+    put_identity(state, settled.identity);
 }
 
 // State and buffer become the device's.
@@ -442,11 +433,10 @@ pub fn put_device(state: &mut [u8], buffer: &mut [u8; 512], device: Device)
     ensures { λ _. ⌜ (now (state .exit) ≡ stateOf device) × (now (buffer .exit) ≡ device .face .buffer) ⌝ }
 {
     let face = device.face;
+    let hot = face.hot;
     let settled = face.settled;
     let secrets = device.secrets;
-    put_hot(state, face.hot);
-    put_numbers(state, settled);
-    put_identity(state, settled.identity);
+    put_front(state, Front { hot, settled });
     put_secrets(state, secrets);
     let block = face.buffer;
     *buffer = block;

@@ -1,8 +1,8 @@
--- A call over lent bytes is the device's own: how it is let in, what the long way and a new hot part leave, what a refusal leaves.
+-- A call over lent bytes is the device's own: how it is let in, what a refusal and new parts leave.
 use Prim.Native.Nat.{ℕ, _+_, _*_, _≤_, _<_}
 use mathlib.Core.Bool.{Bool, true, false}
 use mathlib.Core.Path.{_≡_, refl, sym, ap, _∙_}
-use mathlib.Core.List.{List, _++_}
+use mathlib.Core.List.{List, _++_, append-assoc}
 use native.Mathlib.Omega.{arith}
 use borrow.Author.Tests.{eqb-true, eq-eqb, ne-eqb}
 use lib.Dec.{eqb}
@@ -18,13 +18,11 @@ use Rattle.face.specs.declared.Answer.{Answer}
 use Rattle.face.specs.declared.Answer.the-variants.{Done, NoRegister, OutOfShape, WrongLength, NoTransfer, SetupRefused}
 use Rattle.device.specs.Alone.{shown, aloneOf}
 use Rattle.device.specs.Host.{partsShaped, shapedOf, memoryLength, stepOf}
-use Rattle.device.specs.declared.Device.{Device}
-use Rattle.device.specs.declared.Outcome.{Outcome}
 use Rattle.laws.proofs.Steps.{ready-step}
 use Rattle.layout.specs.Stored.{hotStored, settledStored, secretsStored, geometryStored, deviceStored, formedOf}
-use Rattle.layout.specs.Bytes.{hotBytes, restBytes, stateOf}
-use Rattle.layout.proofs.Puts.{hot-bytes-long}
-use Rattle.layout.proofs.Back.{formed-clauses, rest-back, state-back}
+use Rattle.layout.specs.Bytes.{hotBytes, frontBytes, restBytes}
+use Rattle.layout.proofs.Puts.{hot-bytes-long, front-over}
+use Rattle.layout.proofs.Back.{formed-clauses, secrets-back, rest-back, state-back}
 use Rattle.lent.specs.Lent.{hostReply, leftAlone, lentOf, lentStep, GivesBack, Admitted, admissionOf}
 use Rattle.lent.specs.declared.Reply.{Reply}
 
@@ -131,7 +129,7 @@ away-gives b x m a w r k e f g =
     rw (turned-away b x m a k (sym (ap isRefusal e) ∙ f))
     (record { reply = g ∙ ap (λ (v : Answer). hostReply (numberOf v) 0) e; state = refl; buffer = refl; sectors = refl })
 
--- ---- what the two ways leave
+-- ---- what new parts leave
 
 -- the hot part's bytes put over a state that is formed
 pub hot-put : (b : List ℕ) (h : Hot) → formedOf b ≡ true → LowBytes b → sets b 0 (hotBytes h) ≡ hotBytes h ++ restBytes (settledStored b) (secretsStored b)
@@ -143,15 +141,10 @@ hot-put b h f k =
     ∙ ap (λ (n : ℕ). hotBytes h ++ drop n b) e
     ∙ ap (λ (s : List ℕ). hotBytes h ++ s) (sym (rest-back b (formed-clauses b f) (k .geometry) (k .translation)))
 
--- the long way: all of it goes back
-pub act-gives : (d e : Device) (m : List ℕ) (a : Action) (o : Outcome) (r : Reply) (b x m' : List ℕ) → e ≡ d
-    → o ≡ aloneOf e m a .outcome → m' ≡ aloneOf e m a .sectors → r ≡ hostReply (o .number) (o .value)
-    → b ≡ stateOf (o .device) → x ≡ o .device .face .buffer → GivesBack (lentOf (aloneOf d m a)) r b x m'
-act-gives d e m a o r b x m' ed eo em er eb ex =
-    let p : o ≡ aloneOf d m a .outcome = eo ∙ ap (λ (z : Device). aloneOf z m a .outcome) ed in
-    record {
-      reply = er ∙ ap (λ (z : Outcome). hostReply (z .number) (z .value)) p;
-      state = eb ∙ ap (λ (z : Outcome). stateOf (z .device)) p;
-      buffer = ex ∙ ap (λ (z : Outcome). z .device .face .buffer) p;
-      sectors = em ∙ ap (λ (z : Device). aloneOf z m a .sectors) ed;
-    }
+-- the bytes of hot and settled part put over it
+pub front-put : (b : List ℕ) (h : Hot) (s : Settled) → formedOf b ≡ true → length (frontBytes h s) ≡ 99
+    → sets b 0 (frontBytes h s) ≡ hotBytes h ++ restBytes s (secretsStored b)
+front-put b h s f l =
+    front-over b (frontBytes h s) (formed-long b f) l
+    ∙ ap (λ (x : List ℕ). frontBytes h s ++ x) (sym (secrets-back b (formed-clauses b f)))
+    ∙ simp append-assoc

@@ -1,12 +1,9 @@
-// What calls over a device as lent bytes have in common: the reply, how they are let in, the long way of an action; and setup.
+// What calls over a device as lent bytes have in common: the reply, how they are let in; and setup.
 ghost use mathlib.Core.Path.{_≡_};
 ghost use Rattle.face.specs.Reads.{numberOf};
-ghost use Rattle.device.specs.Alone.{aloneOf};
-ghost use Rattle.layout.specs.Stored.{deviceStored};
-ghost use Rattle.lent.specs.Lent.{hostReply, Admitted, admissionOf, lentOf, GivesBack};
+ghost use Rattle.lent.specs.Lent.{hostReply, admissionOf};
 ghost use Rattle.lent.specs.Setup.{zeroLent, lentSetup, Sets};
 use device::Device;
-use face::Action;
 use face::Answer;
 
 // The answer's number, and its value.
@@ -48,19 +45,6 @@ pub fn admission(state: &[u8], sectors: &[u8]) -> Answer
         return Answer::OutOfShape;
     }
     Answer::OutOfShape
-}
-
-// An action the long way: the whole device comes out of its bytes and goes back.
-pub fn act(state: &mut [u8], buffer: &mut [u8; 512], action: Action, sectors: &mut [u8]) -> Reply
-    requires { ⌜ Admitted (now state) (now buffer) (now sectors) ⌝ }
-    ensures { λ r. ⌜ GivesBack (lentOf (aloneOf (deviceStored (now (state .entry)) (now (buffer .entry))) (now (sectors .entry)) action)) r (now (state .exit)) (now (buffer .exit)) (now (sectors .exit)) ⌝ }
-{
-    let device = layout::device_at(state, buffer);
-    let outcome = device.act(action, sectors);
-    let number = outcome.number;
-    let value = outcome.value as u32;
-    layout::put_device(state, buffer, outcome.device);
-    answered(number, value)
 }
 
 // State and buffer become all zero: what a refused setup hands back.

@@ -1,5 +1,8 @@
 // READ and READ VERIFY SECTOR(S) where they reach a sector, and the data words that are read.
 ghost use mathlib.Core.Path.{_≡_};
+ghost use mathlib.Core.List.{List};
+ghost use Prim.Native.Nat.{ℕ};
+ghost use Rattle.face.specs.Face.{faceWith};
 ghost use Rattle.transfers.specs.Sectors.{Memory};
 ghost use Rattle.reading.specs.Sectors.{readAt, readSectorsOf, verifyLast, verifySectorsOf};
 ghost use Rattle.reading.specs.Words.{readNextOf, readRunOf, sectorWord, readWordOf};
@@ -7,86 +10,87 @@ use address::Address;
 use address::AddressRegisters;
 use face::Answer;
 use face::Face;
+use face::Hot;
 use face::Run;
 use face::Transfer;
+use settled::Settled;
 use transfers::Told;
 
 // A sector to be read is reached.
-fn read_at(face: Face, run: Run, sectors: &[u8]) -> Face
-    requires { ⌜ Memory (face .settled .geometry) (face .settled .translation) (now sectors) ⌝ }
-    ensures { λ r. ⌜ r ≡ readAt face (now (sectors .entry)) run ⌝ }
+fn read_at(hot: Hot, settled: Settled, run: Run, buffer: &mut [u8; 512], sectors: &[u8]) -> Hot
+    requires { ⌜ Memory (settled .geometry) (settled .translation) (now sectors) ⌝ }
+    ensures { λ r. ⌜ faceWith r settled (now (buffer .exit)) ≡ readAt (faceWith hot settled (now (buffer .entry))) (now (sectors .entry)) run ⌝ }
 {
-    let hot = face.hot;
-    let settled = face.settled;
     let at = run.at;
     let Address::Names(sector) = transfers::located(settled, at) else {
-        return transfers::not_found(face, run);
+        return transfers::missed(hot, run);
     };
-    let buffer = block::load(sectors, sector.number);
-    face.with_hot(hot.raised(Transfer::Reading(run)))
-        .with_buffer(buffer)
+    let block = block::load(sectors, sector.number);
+    *buffer = block;
+    hot.raised(Transfer::Reading(run))
 }
 
 // READ SECTOR(S) (20h, 21h).
-pub fn read_sectors(face: Face, sectors: &[u8]) -> Face
-    requires { ⌜ Memory (face .settled .geometry) (face .settled .translation) (now sectors) ⌝ }
-    ensures { λ r. ⌜ r ≡ readSectorsOf face (now (sectors .entry)) ⌝ }
+pub fn read_sectors(hot: Hot, settled: Settled, buffer: &mut [u8; 512], sectors: &[u8]) -> Hot
+    requires { ⌜ Memory (settled .geometry) (settled .translation) (now sectors) ⌝ }
+    ensures { λ r. ⌜ faceWith r settled (now (buffer .exit)) ≡ readSectorsOf (faceWith hot settled (now (buffer .entry))) (now (sectors .entry)) ⌝ }
 {
-    let hot = face.hot;
     let regs = hot.regs;
-    read_at(face, transfers::first_run(regs), sectors)
+    read_at(hot, settled, transfers::first_run(regs), buffer, sectors)
 }
 
 // The last sector to be verified.
-fn verify_last(face: Face, at: AddressRegisters) -> Face
-    ensures { λ r. ⌜ r ≡ verifyLast face at ⌝ }
+fn verify_last(hot: Hot, settled: Settled, at: AddressRegisters) -> Hot
+    ensures { λ r. ⌜ ((b : List ℕ) → faceWith r settled b ≡ verifyLast (faceWith hot settled b) at) ⌝ }
 {
-    let settled = face.settled;
     let Address::Names(sector) = transfers::located(settled, at) else {
         let run = Run {
             at,
             after: 0,
             word: 0,
         };
-        return transfers::not_found(face, run);
+        return transfers::missed(hot, run);
     };
-    transfers::ended_well(face, at)
+    hot.ended_at(at, 0).finish()
 }
 
 // READ VERIFY SECTOR(S) (40h, 41h).
-pub fn verify_sectors(face: Face) -> Face
-    ensures { λ r. ⌜ r ≡ verifySectorsOf face ⌝ }
+pub fn verify_sectors(hot: Hot, settled: Settled) -> Hot
+    ensures { λ r. ⌜ ((b : List ℕ) → faceWith r settled b ≡ verifySectorsOf (faceWith hot settled b)) ⌝ }
 {
-    let hot = face.hot;
     let regs = hot.regs;
     let mut at = regs.at;
     let mut after = transfers::after_first(regs.count);
     while 0 < after {
-        let settled = face.settled;
         let translation = settled.translation;
         let Address::Names(sector) = transfers::located(settled, at) else {
             let run = Run { at, after, word: 0 };
-            return transfers::not_found(face, run);
+            return transfers::missed(hot, run);
         };
         at = successor::successor(at, translation);
         after = after - 1;
     }
-    verify_last(face, at)
+    verify_last(hot, settled, at)
 }
 
 // The last word of a sector has been read. A read that ends well raises nothing.
-fn read_next(face: Face, run: Run, sectors: &[u8]) -> Face
-    requires { ⌜ Memory (face .settled .geometry) (face .settled .translation) (now sectors) ⌝ }
-    ensures { λ r. ⌜ r ≡ readNextOf face (now (sectors .entry)) run ⌝ }
+pub fn read_next(
+    hot: Hot,
+    settled: Settled,
+    run: Run,
+    buffer: &mut [u8; 512],
+    sectors: &[u8],
+) -> Hot
+    requires { ⌜ Memory (settled .geometry) (settled .translation) (now sectors) ⌝ }
+    ensures { λ r. ⌜ faceWith r settled (now (buffer .exit)) ≡ readNextOf (faceWith hot settled (now (buffer .entry))) (now (sectors .entry)) run ⌝ }
 {
-    if 0 < run.after {
-        let settled = face.settled;
-        let translation = settled.translation;
-        return read_at(face, transfers::next_run(run, translation), sectors);
-    }
-    let hot = face.hot;
     let at = run.at;
-    face.with_hot(hot.ended_at(at, 0).with_transfer(Transfer::Idle))
+    if 0 < run.after {
+        let translation = settled.translation;
+        let next = transfers::next_run(run, translation);
+        return read_at(hot, settled, next, buffer, sectors);
+    }
+    hot.ended_at(at, 0).with_transfer(Transfer::Idle)
 }
 
 // A word of a sector has been read.
@@ -94,11 +98,14 @@ fn read_run(face: Face, run: Run, sectors: &[u8]) -> Face
     requires { ⌜ Memory (face .settled .geometry) (face .settled .translation) (now sectors) ⌝ }
     ensures { λ r. ⌜ r ≡ readRunOf face (now (sectors .entry)) run ⌝ }
 {
+    let hot = face.hot;
     if run.word < 255 {
-        let hot = face.hot;
         return face.with_hot(hot.with_transfer(Transfer::Reading(run.next_word())));
     }
-    read_next(face, run, sectors)
+    let settled = face.settled;
+    let mut buffer = face.buffer;
+    let left = read_next(hot, settled, run, &mut buffer, sectors);
+    face.with_hot(left).with_buffer(buffer)
 }
 
 // A data word of a sector is read.

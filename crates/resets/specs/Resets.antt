@@ -1,9 +1,8 @@
 -- What a drop, power-on and hardware reset leave of the face (document 01, "The disk and its three lives", "Registers").
 use Rattle.block.specs.Sectors.{zeroBlock}
-use Rattle.lock.specs.Lock.{unpreparedOf}
 use Rattle.lock.specs.declared.Purpose.{Purpose}
 use Rattle.lock.specs.declared.Purpose.the-variants.{Set, Unlock, Erase, Disable}
-use Rattle.settled.specs.Settled.{withSecurity, settledPoweredOn}
+use Rattle.settled.specs.Settled.{settledUnprepared, settledPoweredOn}
 use Rattle.face.specs.Face.{idleFace, startHot, withHot, withSettled, withBuffer}
 use Rattle.face.specs.declared.PasswordBlock.{PasswordBlock}
 use Rattle.face.specs.declared.Transfer.{Transfer}
@@ -12,7 +11,7 @@ use Rattle.face.specs.declared.Face.{Face}
 
 -- the preparation ended
 abbrev pub unpreparedFace : Face → Face
-unpreparedFace f = withSettled f (withSecurity (f .settled) (unpreparedOf (f .settled .security)))
+unpreparedFace f = withSettled f (settledUnprepared (f .settled))
 
 -- "preparation lasts until F4h .. is dropped by another Command"
 abbrev pub dropPurpose : Face → Purpose → Face

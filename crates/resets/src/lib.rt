@@ -1,73 +1,73 @@
 // What drops and resets leave of the face: a Command that drops the transfer, Device Control, power-on and hardware reset.
 ghost use mathlib.Core.Path.{_≡_};
-ghost use Rattle.resets.specs.Resets.{unpreparedFace, dropPurpose, dropBlock, dropAs, droppedOf, poweredOnFace};
+ghost use mathlib.Core.List.{List};
+ghost use Prim.Native.Nat.{ℕ};
+ghost use Rattle.face.specs.Face.{faceWith};
+ghost use Rattle.resets.specs.Resets.{dropPurpose, dropBlock, dropAs, droppedOf, poweredOnFace};
 ghost use Rattle.resets.specs.Control.{srstOf, nienOf, heldHot, releasedOf, softResetOf, controlOf};
-use face::Face;
+use face::Front;
 use face::Hot;
 use face::PasswordBlock;
 use face::Transfer;
 use lock::Purpose;
-
-// The preparation ended.
-fn unprepared(face: Face) -> Face
-    ensures { λ r. ⌜ r ≡ unpreparedFace face ⌝ }
-{
-    let settled = face.settled;
-    let security = settled.security;
-    face.with_settled(settled.with_security(security.unprepare()))
-}
+use settled::Settled;
 
 // What the drop of a password block clears besides the buffer.
-fn drop_purpose(face: Face, purpose: Purpose) -> Face
-    ensures { λ r. ⌜ r ≡ dropPurpose face purpose ⌝ }
+fn drop_purpose(settled: Settled, purpose: Purpose) -> Settled
+    ensures { λ r. ⌜ ((h : Hot) → (b : List ℕ) → faceWith h r b ≡ dropPurpose (faceWith h settled b) purpose) ⌝ }
 {
     match purpose {
-        Purpose::Set => face,
-        Purpose::Unlock => face,
-        Purpose::Erase => unprepared(face),
-        Purpose::Disable => face,
+        Purpose::Set => settled,
+        Purpose::Unlock => settled,
+        Purpose::Erase => settled.unprepare(),
+        Purpose::Disable => settled,
     }
 }
 
 // What the drop of a password block clears.
-fn drop_block(face: Face, block: PasswordBlock) -> Face
-    ensures { λ r. ⌜ r ≡ dropBlock face block ⌝ }
+fn drop_block(settled: Settled, block: PasswordBlock, buffer: &mut [u8; 512]) -> Settled
+    ensures { λ r. ⌜ ((h : Hot) → faceWith h r (now (buffer .exit)) ≡ dropBlock (faceWith h settled (now (buffer .entry))) block) ⌝ }
 {
     let purpose = block.purpose;
-    drop_purpose(face.with_buffer(block::zeros()), purpose)
+    *buffer = block::zeros();
+    drop_purpose(settled, purpose)
 }
 
 // What the drop of this transfer clears.
-fn drops(face: Face, transfer: Transfer) -> Face
-    ensures { λ r. ⌜ r ≡ dropAs face transfer ⌝ }
+fn drops(settled: Settled, transfer: Transfer, buffer: &mut [u8; 512]) -> Settled
+    ensures { λ r. ⌜ ((h : Hot) → faceWith h r (now (buffer .exit)) ≡ dropAs (faceWith h settled (now (buffer .entry))) transfer) ⌝ }
 {
     match transfer {
-        Transfer::Idle => face,
-        Transfer::Reading(r) => face,
-        Transfer::Writing(r) => face,
-        Transfer::ReadingBuffer(n) => face,
-        Transfer::WritingBuffer(n) => face,
-        Transfer::TakingPassword(b) => drop_block(face, b),
+        Transfer::Idle => settled,
+        Transfer::Reading(r) => settled,
+        Transfer::Writing(r) => settled,
+        Transfer::ReadingBuffer(n) => settled,
+        Transfer::WritingBuffer(n) => settled,
+        Transfer::TakingPassword(b) => drop_block(settled, b, buffer),
     }
 }
 
 // A Command write drops the transfer.
-pub fn drop_transfer(face: Face) -> Face
-    ensures { λ r. ⌜ r ≡ droppedOf face ⌝ }
+pub fn drop_transfer(hot: Hot, settled: Settled, buffer: &mut [u8; 512]) -> Front
+    ensures { λ r. ⌜ faceWith (r .hot) (r .settled) (now (buffer .exit)) ≡ droppedOf (faceWith hot settled (now (buffer .entry))) ⌝ }
 {
-    let hot = face.hot;
     let transfer = hot.transfer;
-    drops(face.with_hot(hot.with_transfer(Transfer::Idle)), transfer)
+    let left = drops(settled, transfer, buffer);
+    let idle = hot.with_transfer(Transfer::Idle);
+    Front {
+        hot: idle,
+        settled: left,
+    }
 }
 
-// Power-on and hardware reset.
-pub fn powered_on(face: Face) -> Face
-    ensures { λ r. ⌜ r ≡ poweredOnFace face ⌝ }
+// Power-on and hardware reset, whatever the registers held.
+pub fn powered_on(settled: Settled, buffer: &mut [u8; 512]) -> Front
+    ensures { λ r. ⌜ ((h : Hot) → faceWith (r .hot) (r .settled) (now (buffer .exit)) ≡ poweredOnFace (faceWith h settled (now (buffer .entry)))) ⌝ }
 {
-    let settled = face.settled;
-    face.with_hot(Hot::start())
-        .with_settled(settled.power_on())
-        .with_buffer(block::zeros())
+    *buffer = block::zeros();
+    let hot = Hot::start();
+    let left = settled.power_on();
+    Front { hot, settled: left }
 }
 
 // Device Control bit 2.
@@ -103,24 +103,24 @@ fn released(mut hot: Hot, masked: bool) -> Hot
     hot
 }
 
-// Setting SRST.
-fn soft_reset(face: Face, masked: bool) -> Face
-    ensures { λ r. ⌜ r ≡ softResetOf face masked ⌝ }
+// Setting SRST, whatever the registers held.
+fn soft_reset(settled: Settled, masked: bool, buffer: &mut [u8; 512]) -> Front
+    ensures { λ r. ⌜ ((h : Hot) → faceWith (r .hot) (r .settled) (now (buffer .exit)) ≡ softResetOf (faceWith h settled (now (buffer .entry))) masked) ⌝ }
 {
-    let settled = face.settled;
-    face.with_hot(held(masked))
-        .with_settled(settled.reset())
-        .with_buffer(block::zeros())
+    *buffer = block::zeros();
+    let hot = held(masked);
+    let left = settled.reset();
+    Front { hot, settled: left }
 }
 
 // A write to Device Control.
-pub fn control(face: Face, v: u8) -> Face
-    ensures { λ r. ⌜ r ≡ controlOf face v ⌝ }
+pub fn control(hot: Hot, settled: Settled, v: u8, buffer: &mut [u8; 512]) -> Front
+    ensures { λ r. ⌜ faceWith (r .hot) (r .settled) (now (buffer .exit)) ≡ controlOf (faceWith hot settled (now (buffer .entry))) v ⌝ }
 {
-    let hot = face.hot;
     let masked = nien(v);
     if srst(v) {
-        return soft_reset(face, masked);
+        return soft_reset(settled, masked, buffer);
     }
-    face.with_hot(released(hot, masked))
+    let left = released(hot, masked);
+    Front { hot: left, settled }
 }

@@ -28,10 +28,14 @@ settledFits s =
     false)
     false
 
+-- the preparation ended
+abbrev pub settledUnprepared : Settled → Settled
+settledUnprepared s = withSecurity s (unpreparedOf (s .security))
+
 -- power-on and hardware reset: "factory translation", and what they make of the security settings
 abbrev pub settledPoweredOn : Settled → Settled
 settledPoweredOn s = withSecurity (withTranslation s (factoryOf (s .geometry))) (poweredOn (s .security))
 
 -- setting SRST: "factory translation .. clears .. preparation; it touches neither lock state nor attempts"
 abbrev pub settledReset : Settled → Settled
-settledReset s = withSecurity (withTranslation s (factoryOf (s .geometry))) (unpreparedOf (s .security))
+settledReset s = settledUnprepared (withTranslation s (factoryOf (s .geometry)))

@@ -1,7 +1,7 @@
 // What commands seldom touch: geometry, translation, identity and security settings; their limits, and what resets leave of them.
 ghost use mathlib.Core.Path.{_≡_};
 ghost use Rattle.settled.specs.Identity.{plain, printable, identityFits};
-ghost use Rattle.settled.specs.Settled.{withTranslation, withSecurity, settledFits, settledPoweredOn, settledReset};
+ghost use Rattle.settled.specs.Settled.{withTranslation, withSecurity, settledFits, settledUnprepared, settledPoweredOn, settledReset};
 ghost use Rattle.settled.specs.Setup.{zeroIdentity, zeroSecurity, zeroSettled, freshSettled};
 use geometry::Geometry;
 use geometry::Translation;
@@ -94,6 +94,14 @@ impl Settled {
         false
     }
 
+    // The preparation ended.
+    pub fn unprepare(self) -> Self
+        ensures { λ r. ⌜ r ≡ settledUnprepared self ⌝ }
+    {
+        let security = self.security;
+        self.with_security(security.unprepare())
+    }
+
     // Power-on and hardware reset.
     pub fn power_on(self) -> Self
         ensures { λ r. ⌜ r ≡ settledPoweredOn self ⌝ }
@@ -109,9 +117,7 @@ impl Settled {
         ensures { λ r. ⌜ r ≡ settledReset self ⌝ }
     {
         let geometry = self.geometry;
-        let security = self.security;
-        self.with_translation(geometry.factory())
-            .with_security(security.unprepare())
+        self.with_translation(geometry.factory()).unprepare()
     }
 }
 

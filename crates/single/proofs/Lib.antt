@@ -1,2 +1,4 @@
 pub mod Quick
 pub mod Words
+pub mod Open
+pub mod Parts

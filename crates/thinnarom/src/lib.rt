@@ -45,7 +45,7 @@ pub extern "C" fn thinnarom_write_register(
 ) -> Reply
     ensures { λ r. ⌜ GivesBack (lentStep (now (state .entry)) (now (buffer .entry)) (now (sectors .entry)) (Action.WriteRegister n v)) r (now (state .exit)) (now (buffer .exit)) (now (sectors .exit)) ⌝ }
 {
-    single::host(state, buffer, Action::WriteRegister(n, v), sectors)
+    single::write_register(state, buffer, n, v, sectors)
 }
 
 #[no_mangle]
@@ -103,7 +103,7 @@ pub extern "C" fn thinnarom_hardware_reset(
 ) -> Reply
     ensures { λ r. ⌜ GivesBack (lentStep (now (state .entry)) (now (buffer .entry)) (now (sectors .entry)) Action.HardwareReset) r (now (state .exit)) (now (buffer .exit)) (now (sectors .exit)) ⌝ }
 {
-    single::host(state, buffer, Action::HardwareReset, sectors)
+    single::rare(state, buffer, Action::HardwareReset, sectors)
 }
 
 #[no_mangle]
@@ -114,7 +114,7 @@ pub extern "C" fn thinnarom_power_on(
 ) -> Reply
     ensures { λ r. ⌜ GivesBack (lentStep (now (state .entry)) (now (buffer .entry)) (now (sectors .entry)) Action.PowerOn) r (now (state .exit)) (now (buffer .exit)) (now (sectors .exit)) ⌝ }
 {
-    single::host(state, buffer, Action::PowerOn, sectors)
+    single::rare(state, buffer, Action::PowerOn, sectors)
 }
 
 #[no_mangle]

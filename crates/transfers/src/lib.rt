@@ -1,7 +1,7 @@
 // What reading and writing share: the sector that an address names, runs of sectors, how commands end, and the data words of the buffer.
 ghost use mathlib.Core.Path.{_≡_};
 ghost use Prim.Native.Nat.{_<_};
-ghost use Rattle.transfers.specs.Sectors.{located, afterOf, firstRun, nextRun, abortFace, finishFace, endedWell, missedOf, notFoundOf};
+ghost use Rattle.transfers.specs.Sectors.{located, afterOf, firstRun, nextRun, abortFace, finishFace, missedOf};
 ghost use Rattle.transfers.specs.Words.{told, noTransfer, readBufferWord, bufferWord, wordIn, writeBufferWord};
 use address::Address;
 use address::AddressRegisters;
@@ -78,7 +78,7 @@ pub fn abort(face: Face) -> Face
     ensures { λ r. ⌜ r ≡ abortFace face ⌝ }
 {
     let hot = face.hot;
-    face.with_hot(hot.fail(0x04))
+    face.with_hot(hot.abort())
 }
 
 // A command ends well.
@@ -89,14 +89,6 @@ pub fn finish(face: Face) -> Face
     face.with_hot(hot.finish())
 }
 
-// A sector command ends well: no sectors left, and the last one's address.
-pub fn ended_well(face: Face, at: AddressRegisters) -> Face
-    ensures { λ r. ⌜ r ≡ endedWell face at ⌝ }
-{
-    let hot = face.hot;
-    face.with_hot(hot.ended_at(at, 0).finish())
-}
-
 // A bad address ends a sector command: the address, and the sectors left including it, 256 shown as 00h.
 pub fn missed(hot: Hot, run: Run) -> Hot
     ensures { λ r. ⌜ r ≡ missedOf hot run ⌝ }
@@ -104,14 +96,6 @@ pub fn missed(hot: Hot, run: Run) -> Hot
     let at = run.at;
     let left = ((run.after as u16 + 1) % 256) as u8;
     hot.ended_at(at, left).fail(0x10)
-}
-
-// The same of the face.
-pub fn not_found(face: Face, run: Run) -> Face
-    ensures { λ r. ⌜ r ≡ notFoundOf face run ⌝ }
-{
-    let hot = face.hot;
-    face.with_hot(missed(hot, run))
 }
 
 // A data word with no transfer that way.

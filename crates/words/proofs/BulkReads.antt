@@ -14,7 +14,7 @@ use Rattle.settled.specs.declared.Settled.{Settled}
 use Rattle.address.specs.declared.Address.{Address}
 use Rattle.address.specs.declared.Address.the-variants.{Names, Faults}
 use Rattle.block.specs.Words.{wordAt}
-use Rattle.face.specs.Face.{withTransfer}
+use Rattle.face.specs.Face.{faceWith, withTransfer}
 use Rattle.face.specs.Reads.{seen}
 use Rattle.face.specs.declared.Hot.{Hot}
 use Rattle.face.specs.declared.Run.{Run}
@@ -39,7 +39,7 @@ use Rattle.glance.specs.Places.{placeOf, runPlacedAt, placedAt, hotAt}
 use Rattle.glance.specs.Glances.{handsOut, readGlance, glanceOf, glanceBuffer}
 use Rattle.glance.proofs.Glancing.{hot-same, glance-settles, glance-buffer}
 use Rattle.words.specs.Words.{Handed, handsNone, handsFirst, readWordsOf}
-use Rattle.words.specs.Blocks.{faceWith, faceAt, readUpTo}
+use Rattle.words.specs.Blocks.{faceAt, readUpTo}
 use Rattle.words.specs.Bulk.{deviceWith}
 
 -- words, and those behind them

@@ -16,7 +16,7 @@ use Rattle.settled.specs.declared.Settled.{Settled}
 use Rattle.address.specs.declared.Address.{Address}
 use Rattle.address.specs.declared.Address.the-variants.{Names, Faults}
 use Rattle.block.specs.Words.{wordPut}
-use Rattle.face.specs.Face.{withTransfer}
+use Rattle.face.specs.Face.{faceWith, withTransfer}
 use Rattle.face.specs.Reads.{seen}
 use Rattle.face.specs.declared.Hot.{Hot}
 use Rattle.face.specs.declared.Run.{Run}
@@ -40,7 +40,7 @@ use Rattle.glance.specs.Places.{placeOf, runPlacedAt, placedAt, hotAt}
 use Rattle.glance.specs.Glances.{takesIn, writeGlance, writeGlanceBuffer, glanceOf, glanceBuffer}
 use Rattle.glance.proofs.Glancing.{hot-same, glance-settles, glance-buffer}
 use Rattle.words.specs.Words.{Taken, takesNone, takenBehind, writeWordsOf}
-use Rattle.words.specs.Blocks.{faceWith, faceAt, takesTo, takesHere, blockTaken, blockStored, writtenUpTo, storedUpTo}
+use Rattle.words.specs.Blocks.{faceAt, takesTo, takesHere, blockTaken, blockStored, writtenUpTo, storedUpTo}
 use Rattle.words.specs.Bulk.{deviceWith, hereOf}
 use Rattle.words.proofs.BulkReads.{wordDone}
 

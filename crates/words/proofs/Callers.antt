@@ -47,7 +47,7 @@ takesOne d m s = pick (eqb (s .outcome .number) 0) (record { count = 1; device =
 -- ---- where no word is taken in here
 
 -- a word where no transfer takes it
-word-refused : (f : Face) (x : Secrets) (m : List ℕ) (w : ℕ) (t : Transfer) → takesIn t ≡ false → eqb (stepAs (writeWordAs f x m w t) .outcome .number) 0 ≡ false
+pub word-refused : (f : Face) (x : Secrets) (m : List ℕ) (w : ℕ) (t : Transfer) → takesIn t ≡ false → eqb (stepAs (writeWordAs f x m w t) .outcome .number) 0 ≡ false
 word-refused f x m w Idle e = refl
 word-refused f x m w (Reading r) e = refl
 word-refused f x m w (Writing r) e = absurd (false≢true (sym e))
@@ -176,6 +176,14 @@ stopped l d m t e less = either-way (takesHere (t .device .face .hot .transfer))
     done : takesHere (t .device .face .hot .transfer) ≡ true → hereOf (t .device) (t .sectors) (WriteWord (getD l (t .count) 0)) .outcome .number ≡ 0
     done y = rw y (word-taken (t .device .face) (t .device .secrets) (t .sectors) (getD l (t .count) 0) (t .device .face .hot .transfer) y)
 
+-- a whole word is left: it is not taken in here
+pub writes-stopped : {h : Hot} {s : Settled} {b m bytes : List ℕ} {r : Passed} {after sectors : List ℕ} → Writes h s b m bytes r after sectors → r .words < length bytes / 2
+    → Secrets → takesHere (r .hot .transfer) ≡ false
+writes-stopped {h} {s} {b} {m} {bytes} {r} k l x =
+    let n : length (wordsIn bytes) ≡ length bytes / 2 = words-length bytes in
+    let less : r .words < length (wordsIn bytes) = omega (arith, n, l) in
+    stopped (wordsIn bytes) (deviceWith h s b x) m _ (k .taken x) less
+
 word-of : (bytes : List ℕ) (k : ℕ) → 2 * k + 2 ≤ length bytes → getD (wordsIn bytes) k 0 ≡ wordAt bytes k
 unfolding wordsIn wordAt
 word-of [] k h = absurd (omega arith)
@@ -193,11 +201,12 @@ pub writes-next : {h : Hot} {s : Settled} {b m bytes : List ℕ} {r : Passed} {a
 writes-next {h} {s} {b} {m} {bytes} {r} {after} {sectors} k l x =
     let n : length (wordsIn bytes) ≡ length bytes / 2 = words-length bytes in
     let less : r .words < length (wordsIn bytes) = omega (arith, n, l) in
+    let half : r .words < length bytes / 2 = omega (arith, l) in
     writes-behind k x
     ∙ ap (λ (ws : List ℕ). takenBehind (r .words) (writeWordsOf aloneOf ws (deviceWith (r .hot) s after x) sectors)) (drop-cons (wordsIn bytes) (r .words) 0 less)
     ∙ ap (λ (w : ℕ). takenBehind (r .words) (writeWordsOf aloneOf (w ∷ drop (suc (r .words)) (wordsIn bytes)) (deviceWith (r .hot) s after x) sectors)) (word-of bytes (r .words) l)
     ∙ ap (takenBehind (r .words))
-    (one-word (wordAt bytes (r .words)) (drop (suc (r .words)) (wordsIn bytes)) (deviceWith (r .hot) s after x) sectors (stopped (wordsIn bytes) (deviceWith h s b x) m _ (k .taken x) less))
+    (one-word (wordAt bytes (r .words)) (drop (suc (r .words)) (wordsIn bytes)) (deviceWith (r .hot) s after x) sectors (writes-stopped k half x))
 
 -- ---- by the host's rules
 

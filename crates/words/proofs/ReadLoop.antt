@@ -8,6 +8,7 @@ use lib.ListN.{length, take, drop, length-drop}
 use lib.Seq.{length-take-le, length-paste, take-paste, drop-paste, drop-drop}
 use Rattle.lock.specs.declared.Secrets.{Secrets}
 use Rattle.settled.specs.declared.Settled.{Settled}
+use Rattle.face.specs.Face.{faceWith}
 use Rattle.face.specs.declared.Hot.{Hot}
 use Rattle.face.specs.declared.Face.{Face}
 use Rattle.device.specs.Alone.{deviceOf, aloneOf}
@@ -15,7 +16,7 @@ use Rattle.laws.proofs.ReadBack.{wordsFrom}
 use Rattle.glance.specs.Places.{placeOf}
 use Rattle.glance.specs.Glances.{handsOut}
 use Rattle.words.specs.Words.{handsNone, readWordsOf, wordsIn}
-use Rattle.words.specs.Blocks.{faceWith, readUpTo, Moved}
+use Rattle.words.specs.Blocks.{readUpTo, Moved}
 use Rattle.words.specs.Bulk.{deviceWith, Reads}
 use Rattle.words.proofs.Bytes.{words-append, words-from}
 use Rattle.words.proofs.BulkReads.{handsBehind, behind-behind, read-up-to, reads-none}

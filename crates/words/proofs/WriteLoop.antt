@@ -9,6 +9,7 @@ use lib.Seq.{length-take-le, getD-drop, take-add}
 use borrow.Author.Tests.{le-ltb}
 use Rattle.lock.specs.declared.Secrets.{Secrets}
 use Rattle.settled.specs.declared.Settled.{Settled}
+use Rattle.face.specs.Face.{faceWith}
 use Rattle.face.specs.declared.Hot.{Hot}
 use Rattle.face.specs.declared.Transfer.{Transfer}
 use Rattle.face.specs.declared.Transfer.the-variants.{Idle, Reading, Writing, ReadingBuffer, WritingBuffer, TakingPassword}
@@ -17,7 +18,7 @@ use Rattle.device.specs.declared.Device.{Device}
 use Rattle.laws.proofs.ReadBack.{putAll}
 use Rattle.glance.specs.Places.{placeOf}
 use Rattle.words.specs.Words.{Taken, takesNone, takenBehind, writeWordsOf, wordsIn}
-use Rattle.words.specs.Blocks.{faceWith, takesTo, takesHere, writtenUpTo, storedUpTo, Moved}
+use Rattle.words.specs.Blocks.{takesTo, takesHere, writtenUpTo, storedUpTo, Moved}
 use Rattle.words.specs.Bulk.{deviceWith, hereOf, Writes}
 use Rattle.words.proofs.Bytes.{words-append, front-length, put-pasted}
 use Rattle.words.proofs.BulkWrites.{writes-append, written-up-to}

@@ -7,9 +7,7 @@ use lib.Dec.{ltb}
 use lib.ListN.{length, getD, drop}
 use lib.Seq.{paste}
 use Rattle.base.specs.Choice.{pick}
-use Rattle.settled.specs.declared.Settled.{Settled}
 use Rattle.face.specs.Face.{withHot}
-use Rattle.face.specs.declared.Hot.{Hot}
 use Rattle.face.specs.declared.Face.{Face}
 use Rattle.face.specs.declared.Transfer.{Transfer}
 use Rattle.face.specs.declared.Transfer.the-variants.{Idle, Reading, Writing, ReadingBuffer, WritingBuffer, TakingPassword}
@@ -17,10 +15,6 @@ use Rattle.transfers.specs.Sectors.{finishFace}
 use Rattle.reading.specs.Words.{readWordAs}
 use Rattle.writing.specs.Words.{writeLastOf, writeLastSectors}
 use Rattle.glance.specs.Places.{placedAt, hotAt}
-
--- a face of these parts
-abbrev pub faceWith : Hot → Settled → List ℕ → Face
-faceWith h s b = record { hot = h; settled = s; buffer = b }
 
 -- the face whose transfer stands at that word
 abbrev pub faceAt : Face → ℕ → Face

@@ -6,12 +6,13 @@ use lib.ListN.{length, take, drop}
 use Rattle.lock.specs.declared.Secrets.{Secrets}
 use Rattle.settled.specs.declared.Settled.{Settled}
 use Rattle.base.specs.Choice.{pick}
+use Rattle.face.specs.Face.{faceWith}
 use Rattle.face.specs.declared.Hot.{Hot}
 use Rattle.face.specs.declared.Answer.the-variants.{NoTransfer}
 use Rattle.device.specs.Alone.{shown, aloneOf, deviceOf}
 use Rattle.device.specs.declared.Device.{Device}
 use Rattle.laws.specs.Sessions.{Rules}
-use Rattle.words.specs.Blocks.{faceWith, takesHere}
+use Rattle.words.specs.Blocks.{takesHere}
 use Rattle.words.specs.Words.{readWordsOf, writeWordsOf, wordsIn}
 use Rattle.words.specs.declared.Passed.{Passed}
 

@@ -1,13 +1,11 @@
 // Data words in bulk: as many words as a transfer passes, a block at a time.
 ghost use mathlib.Core.Path.{_≡_};
-ghost use mathlib.Core.List.{List};
-ghost use Prim.Native.Nat.{ℕ, _≤_, min};
+ghost use Prim.Native.Nat.{_≤_, min};
+ghost use Rattle.face.specs.Face.{faceWith};
 ghost use Rattle.transfers.specs.Sectors.{Memory};
-ghost use Rattle.reading.specs.Sectors.{readAt};
-ghost use Rattle.reading.specs.Words.{readNextOf, readWordAs};
-ghost use Rattle.writing.specs.Words.{wantAt, writeNextOf, writeLastOf, writeLastSectors};
+ghost use Rattle.reading.specs.Words.{readWordAs};
 ghost use Rattle.glance.specs.Places.{placedAt, hotAt};
-ghost use Rattle.words.specs.Blocks.{faceWith, readUpTo, takesTo, writtenUpTo, storedUpTo, Moved, Reach};
+ghost use Rattle.words.specs.Blocks.{readUpTo, takesTo, writtenUpTo, storedUpTo, Moved, Reach};
 ghost use Rattle.words.specs.Bulk.{Reads, Writes};
 use address::Address;
 use face::Hot;
@@ -49,34 +47,6 @@ fn placed(hot: Hot, word: u8) -> Hot
     glance::hot_at(hot, word, hot.signals.raised)
 }
 
-// A sector to be read is reached.
-fn read_at(hot: Hot, settled: Settled, run: Run, buffer: &mut [u8; 512], sectors: &[u8]) -> Hot
-    requires { ⌜ Memory (settled .geometry) (settled .translation) (now sectors) ⌝ }
-    ensures { λ r. ⌜ faceWith r settled (now (buffer .exit)) ≡ readAt (faceWith hot settled (now (buffer .entry))) (now (sectors .entry)) run ⌝ }
-{
-    let at = run.at;
-    let Address::Names(sector) = transfers::located(settled, at) else {
-        return transfers::missed(hot, run);
-    };
-    let block = block::load(sectors, sector.number);
-    *buffer = block;
-    hot.raised(Transfer::Reading(run))
-}
-
-// The last word of a sector has been read.
-fn read_next(hot: Hot, settled: Settled, run: Run, buffer: &mut [u8; 512], sectors: &[u8]) -> Hot
-    requires { ⌜ Memory (settled .geometry) (settled .translation) (now sectors) ⌝ }
-    ensures { λ r. ⌜ faceWith r settled (now (buffer .exit)) ≡ readNextOf (faceWith hot settled (now (buffer .entry))) (now (sectors .entry)) run ⌝ }
-{
-    let at = run.at;
-    if 0 < run.after {
-        let translation = settled.translation;
-        let next = transfers::next_run(run, translation);
-        return read_at(hot, settled, next, buffer, sectors);
-    }
-    hot.ended_at(at, 0).with_transfer(Transfer::Idle)
-}
-
 // The last word of a block has been read.
 fn read_last(hot: Hot, settled: Settled, buffer: &mut [u8; 512], sectors: &[u8]) -> Hot
     requires { ⌜ Memory (settled .geometry) (settled .translation) (now sectors) ⌝ }
@@ -85,7 +55,7 @@ fn read_last(hot: Hot, settled: Settled, buffer: &mut [u8; 512], sectors: &[u8])
     let transfer = hot.transfer;
     match transfer {
         Transfer::Idle => hot,
-        Transfer::Reading(r) => read_next(hot, settled, r, buffer, sectors),
+        Transfer::Reading(r) => reading::read_next(hot, settled, r, buffer, sectors),
         Transfer::Writing(r) => hot,
         Transfer::ReadingBuffer(n) => hot.with_transfer(Transfer::Idle),
         Transfer::WritingBuffer(n) => hot,
@@ -133,43 +103,6 @@ pub fn read_words(
     Passed { hot, words }
 }
 
-// A sector to be written after the first is reached.
-fn want_at(hot: Hot, settled: Settled, run: Run) -> Hot
-    ensures { λ r. ⌜ ((b : List ℕ) → faceWith r settled b ≡ wantAt (faceWith hot settled b) run) ⌝ }
-{
-    let at = run.at;
-    let Address::Names(sector) = transfers::located(settled, at) else {
-        return transfers::missed(hot, run);
-    };
-    hot.raised(Transfer::Writing(run))
-}
-
-// A sector has been stored.
-fn write_next(hot: Hot, settled: Settled, run: Run) -> Hot
-    ensures { λ r. ⌜ ((b : List ℕ) → faceWith r settled b ≡ writeNextOf (faceWith hot settled b) run) ⌝ }
-{
-    let at = run.at;
-    if 0 < run.after {
-        let translation = settled.translation;
-        return want_at(hot, settled, transfers::next_run(run, translation));
-    }
-    hot.ended_at(at, 0).finish()
-}
-
-// The last word of a sector has arrived: it is stored.
-fn write_last(hot: Hot, settled: Settled, run: Run, buffer: &[u8; 512], sectors: &mut [u8]) -> Hot
-    requires { ⌜ Memory (settled .geometry) (settled .translation) (now sectors) ⌝ }
-    ensures { λ r. ⌜ (faceWith r settled (now (buffer .entry)) ≡ writeLastOf (faceWith hot settled (now (buffer .entry))) run) × (now (sectors .exit) ≡ writeLastSectors (faceWith hot settled (now (buffer .entry))) (now (sectors .entry)) run) ⌝ }
-{
-    let at = run.at;
-    let Address::Names(sector) = transfers::located(settled, at) else {
-        return transfers::missed(hot, run);
-    };
-    let block = *buffer;
-    block::store(sectors, sector.number, block);
-    write_next(hot, settled, run)
-}
-
 // Where the words end that the block takes in here. A password block's last word is judged, which takes more of the device.
 fn takes_to(transfer: Transfer) -> usize
     ensures { λ r. ⌜ (r ≡ takesTo transfer) × (r ≤ 256) ⌝ }
@@ -196,7 +129,7 @@ fn write_to(hot: Hot, place: usize, settled: Settled, buffer: &[u8; 512], sector
     match transfer {
         Transfer::Idle => hot,
         Transfer::Reading(r) => hot,
-        Transfer::Writing(r) => write_last(hot, settled, r, buffer, sectors),
+        Transfer::Writing(r) => writing::write_last(hot, settled, r, buffer, sectors),
         Transfer::ReadingBuffer(n) => hot,
         Transfer::WritingBuffer(n) => hot.finish(),
         Transfer::TakingPassword(b) => hot,

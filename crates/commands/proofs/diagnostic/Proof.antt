@@ -10,12 +10,9 @@ restarted-requires c κs = search needs
 finish-requires : tie.Need-finish-requires
 finish-requires c κs = search needs
 
-with-hot-requires : tie.Need-with-hot-requires
-with-hot-requires c κs = search needs
-
 returns : tie.Need-returns
 unfolding diagnosticOf
-returns c = simp (c .with-hot .ensures, c .before .finish .ensures, c .before .before .restarted .ensures)
+returns c = λ s b. simp (c .finish .ensures, c .before .restarted .ensures)
 
 pub diagnostic-spec : {M : Type 1} → statement M
-diagnostic-spec = tie.close (tie.spec restarted-requires finish-requires with-hot-requires returns)
+diagnostic-spec = tie.close (tie.spec restarted-requires finish-requires returns)

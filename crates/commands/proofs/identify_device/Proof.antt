@@ -10,17 +10,9 @@ identify-requires c κs = search needs
 raised-requires : tie.Need-raised-requires
 raised-requires c κs = search needs
 
-with-hot-requires : tie.Need-with-hot-requires
-with-hot-requires c κs = search needs
-
-with-buffer-requires : tie.Need-with-buffer-requires
-with-buffer-requires c κs = search needs
-
 returns : tie.Need-returns
 unfolding identifyDeviceOf
-returns c = simp (c .with-buffer .ensures, c .before .with-hot .ensures, c .before .before .raised .ensures, c .before .before .before .identify .ensures)
+returns c = simp (c .raised .ensures, c .before .identify .ensures)
 
 pub identify-device-spec : {M : Type 1} → statement M
-identify-device-spec =
-    tie.close
-    (tie.spec identify-requires raised-requires with-hot-requires with-buffer-requires returns)
+identify-device-spec = tie.close (tie.spec identify-requires raised-requires returns)

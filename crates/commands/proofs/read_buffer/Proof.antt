@@ -7,12 +7,9 @@ use Rattle.commands.proofs.read_buffer.Tie as tie
 raised-requires : tie.Need-raised-requires
 raised-requires c κs = search needs
 
-with-hot-requires : tie.Need-with-hot-requires
-with-hot-requires c κs = search needs
-
 returns : tie.Need-returns
 unfolding readBufferOf
-returns c = simp (c .with-hot .ensures, c .before .raised .ensures)
+returns c = λ s b. simp (c .raised .ensures)
 
 pub read-buffer-spec : {M : Type 1} → statement M
-read-buffer-spec = tie.close (tie.spec raised-requires with-hot-requires returns)
+read-buffer-spec = tie.close (tie.spec raised-requires returns)

@@ -13,14 +13,10 @@ ended-at-requires c κs = search needs
 finish-requires : tie.Need-finish-requires
 finish-requires c κs = search needs
 
-with-hot-requires : tie.Need-with-hot-requires
-with-hot-requires c κs = search needs
-
 returns : tie.Need-returns
 unfolding recalibrateOf
-returns c = simp (c .with-hot .ensures, c .before .finish .ensures, c .before .before .ended-at .ensures, c .before .before .before .recalibrated-at .ensures)
+returns c = λ s b. simp (c .finish .ensures, c .before .ended-at .ensures, c .before .before .recalibrated-at .ensures)
 
 pub recalibrate-spec : {M : Type 1} → statement M
 recalibrate-spec =
-    tie.close
-    (tie.spec recalibrated-at-requires ended-at-requires finish-requires with-hot-requires returns)
+    tie.close (tie.spec recalibrated-at-requires ended-at-requires finish-requires returns)

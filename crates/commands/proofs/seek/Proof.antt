@@ -16,19 +16,16 @@ enum-told c = search needs
 fail-requires : tie.Need-fail-requires
 fail-requires c κs = search needs
 
-with-hot-requires : tie.Need-with-hot-requires
-with-hot-requires c κs = search needs
-
 returns : tie.Need-returns
 unfolding seekOf
-returns c = simp (c .with-hot .ensures, c .before .fail .ensures, c .before .before .enum-told .given .1, ← c .before .before .before .before .located .ensures)
+returns c = λ b. simp (c .fail .ensures, c .before .enum-told .given .1, ← c .before .before .before .located .ensures)
 
 finish-requires : tie.Need-finish-requires
 finish-requires c κs = search needs
 
 returns-2 : tie.Need-returns-2
 unfolding seekOf
-returns-2 c = simp (c .finish .ensures, c .before .before .sector .given .1, ← c .before .before .before .before .located .ensures)
+returns-2 c = λ b. simp (c .finish .ensures, c .before .before .sector .given .1, ← c .before .before .before .before .located .ensures)
 
 pub seek-spec : {M : Type 1} → statement M
 seek-spec =
@@ -38,7 +35,6 @@ seek-spec =
     enum-known-sector
     enum-told
     fail-requires
-    with-hot-requires
     returns
     finish-requires
     returns-2)

@@ -26,7 +26,7 @@ run-requires c κs = search needs
 
 returns-2 : tie.Need-returns-2
 unfolding stationsOf
-returns-2 c = simp (c .run .ensures, sym (c .before .before .barred .ensures) ∙ c .before .if2 .left, ← c .before .before .before .decode .ensures, sym (c .before .before .before .before .before .may-run .ensures) ∙ c .before .before .before .before .if1 .taken)
+returns-2 c = simp (c .run .ensures, sym (c .before .before .before .barred .ensures) ∙ c .before .before .if2 .left, ← c .before .before .before .before .decode .ensures, sym (c .before .before .before .before .before .before .may-run .ensures) ∙ c .before .before .before .before .before .if1 .taken)
 
 abort-at-once-requires-2 : tie.Need-abort-at-once-requires-2
 abort-at-once-requires-2 c κs = search needs

@@ -7,12 +7,9 @@ use Rattle.commands.proofs.take_password.Tie as tie
 with-transfer-requires : tie.Need-with-transfer-requires
 with-transfer-requires c κs = search needs
 
-with-hot-requires : tie.Need-with-hot-requires
-with-hot-requires c κs = search needs
-
 returns : tie.Need-returns
 unfolding takePasswordOf
-returns c = simp (c .with-hot .ensures, c .before .with-transfer .ensures)
+returns c = λ s b. simp (c .with-transfer .ensures)
 
 pub take-password-spec : {M : Type 1} → statement M
-take-password-spec = tie.close (tie.spec with-transfer-requires with-hot-requires returns)
+take-password-spec = tie.close (tie.spec with-transfer-requires returns)

@@ -19,25 +19,25 @@ returns : tie.Need-returns
 unfolding writeRegisterOf
 returns c = simp (c .written .ensures, c .before .register-put .ensures, sym (c .before .before .before .within .ensures) ∙ c .before .before .if1 .taken)
 
-command-requires : tie.Need-command-requires
-command-requires c κs = search needs
+command-written-requires : tie.Need-command-written-requires
+command-written-requires c κs = search needs
 
 written-requires-2 : tie.Need-written-requires-2
 written-requires-2 c κs = search needs
 
 returns-2 : tie.Need-returns-2
 unfolding writeRegisterOf
-returns-2 c = simp (c .written2 .ensures, c .before .command .ensures, eq-eqb _ _ (c .before .before .if2 .taken), sym (c .before .before .before .before .within .ensures) ∙ c .before .before .before .if1 .left)
+returns-2 c = simp (c .written2 .ensures, c .before .command-written .ensures, eq-eqb _ _ (c .before .before .if2 .taken), sym (c .before .before .before .before .within .ensures) ∙ c .before .before .before .if1 .left)
 
-control-requires : tie.Need-control-requires
-control-requires c κs = search needs
+control-written-requires : tie.Need-control-written-requires
+control-written-requires c κs = search needs
 
 written-requires-3 : tie.Need-written-requires-3
 written-requires-3 c κs = search needs
 
 returns-3 : tie.Need-returns-3
 unfolding writeRegisterOf
-returns-3 c = simp (c .written3 .ensures, c .before .control .ensures, eq-eqb _ _ (c .before .before .if3 .taken), ne-eqb _ _ (c .before .before .before .if2 .left), sym (c .before .before .before .before .before .within .ensures) ∙ c .before .before .before .before .if1 .left)
+returns-3 c = simp (c .written3 .ensures, c .before .control-written .ensures, eq-eqb _ _ (c .before .before .if3 .taken), ne-eqb _ _ (c .before .before .before .if2 .left), sym (c .before .before .before .before .before .within .ensures) ∙ c .before .before .before .before .if1 .left)
 
 tells-requires : tie.Need-tells-requires
 tells-requires c κs = search needs
@@ -54,10 +54,10 @@ write-register-spec =
     register-put-requires
     written-requires
     returns
-    command-requires
+    command-written-requires
     written-requires-2
     returns-2
-    control-requires
+    control-written-requires
     written-requires-3
     returns-3
     tells-requires

@@ -1,4 +1,5 @@
 -- Three pieces, one behind the other.
+use Rattle.layout.proofs.Puts.{put-identity}
 use borrow.Author.Needs.{needs}
 use lib.ListN.{length}
 use mathlib.Core.Path.{_≡_}
@@ -28,7 +29,8 @@ same-length : tie.Need-same-length
 same-length c = search needs
 
 returns : tie.Need-returns
-returns c = (rw (c .before .before .put-bytes3 .ensures, c .before .before .before .before .before .before .before .put-bytes2 .ensures, c .before .before .before .before .before .before .before .before .before .before .before .before .put-bytes .ensures), search needs)
+returns c = rw (c .before .before .put-bytes3 .ensures, c .before .before .before .before .before .before .before .put-bytes2 .ensures, c .before .before .before .before .before .before .before .before .before .before .before .before .put-bytes .ensures)
+    (put-identity (c .before .before .before .before .before .before .before .before .before .before .before .before .before .before .before .before .before .before .before .args .state .now) (c .before .before .before .before .before .before .before .before .before .before .before .before .before .before .before .before .before .before .before .args .identity .serial) (c .before .before .before .before .before .before .before .before .before .before .before .before .before .before .before .before .before .before .before .args .identity .firmware) (c .before .before .before .before .before .before .before .before .before .before .before .before .before .before .before .before .before .before .before .args .identity .model) (search needs) (search needs) (search needs))
 
 pub put-identity-spec : {M : Type 1} → statement M
 put-identity-spec =

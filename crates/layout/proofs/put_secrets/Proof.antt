@@ -1,4 +1,5 @@
 -- Two pieces, one behind the other.
+use Rattle.layout.proofs.Puts.{put-secrets}
 use borrow.Author.Needs.{needs}
 use lib.ListN.{length}
 use mathlib.Core.Path.{_≡_}
@@ -22,7 +23,8 @@ same-length : tie.Need-same-length
 same-length c = search needs
 
 returns : tie.Need-returns
-returns c = (rw (c .before .before .put-bytes2 .ensures, c .before .before .before .before .before .before .before .put-bytes .ensures), search needs)
+returns c = rw (c .before .before .put-bytes2 .ensures, c .before .before .before .before .before .before .before .put-bytes .ensures)
+    (put-secrets (c .before .before .before .before .before .before .before .before .before .before .before .before .before .args .state .now) (c .before .before .before .before .before .before .before .before .before .before .before .before .before .args .secrets .user) (c .before .before .before .before .before .before .before .before .before .before .before .before .before .args .secrets .master) (search needs) (search needs))
 
 pub put-secrets-spec : {M : Type 1} → statement M
 put-secrets-spec =

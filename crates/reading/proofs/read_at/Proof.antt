@@ -1,6 +1,7 @@
 -- A named sector lies inside the memory.
-use Rattle.transfers.proofs.Reached.{memory-room}
 use Rattle.reading.specs.Sectors.{readAt}
+use Rattle.transfers.proofs.Reached.{memory-room}
+use Rattle.transfers.specs.Sectors.{notFoundOf}
 use borrow.Author.Needs.{needs}
 use mathlib.Core.Path.{_∙_, sym}
 use Rattle.reading.proofs.read_at.Statement.{statement}
@@ -15,28 +16,22 @@ enum-known-sector c = search needs
 enum-told : tie.Need-enum-told
 enum-told c = search needs
 
-not-found-requires : tie.Need-not-found-requires
-not-found-requires c κs = search needs
+missed-requires : tie.Need-missed-requires
+missed-requires c κs = search needs
 
 returns : tie.Need-returns
-unfolding readAt
-returns c = simp (c .not-found .ensures, c .before .enum-told .given .1, ← c .before .before .before .located .ensures)
+unfolding readAt notFoundOf
+returns c = simp (c .missed .ensures, c .before .enum-told .given .1, ← c .before .before .before .located .ensures)
 
 load-requires : tie.Need-load-requires
-load-requires c κs = memory-room (c .before .before .before .before .before .before .before .before .pre) _ _ (sym (c .before .before .before .located .ensures) ∙ c .before .sector .given .1)
+load-requires c κs = memory-room (c .before .before .before .before .before .before .pre) _ _ (sym (c .before .before .before .located .ensures) ∙ c .before .sector .given .1)
 
 raised-requires : tie.Need-raised-requires
 raised-requires c κs = search needs
 
-with-hot-requires : tie.Need-with-hot-requires
-with-hot-requires c κs = search needs
-
-with-buffer-requires : tie.Need-with-buffer-requires
-with-buffer-requires c κs = search needs
-
 returns-2 : tie.Need-returns-2
-unfolding readAt
-returns-2 c = simp (c .with-buffer .ensures, c .before .with-hot .ensures, c .before .before .raised .ensures, c .before .before .before .load .ensures, c .before .before .before .before .before .sector .given .1, ← c .before .before .before .before .before .before .before .located .ensures)
+unfolding readAt notFoundOf
+returns-2 c = simp (c .raised .ensures, c .before .load .ensures, c .before .before .before .sector .given .1, ← c .before .before .before .before .before .located .ensures)
 
 pub read-at-spec : {M : Type 1} → statement M
 read-at-spec =
@@ -45,10 +40,8 @@ read-at-spec =
     located-requires
     enum-known-sector
     enum-told
-    not-found-requires
+    missed-requires
     returns
     load-requires
     raised-requires
-    with-hot-requires
-    with-buffer-requires
     returns-2)

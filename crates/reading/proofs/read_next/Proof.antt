@@ -13,7 +13,7 @@ read-at-requires c κs = search needs
 
 returns : tie.Need-returns
 unfolding readNextOf
-returns c = simp (c .read-at .ensures, c .before .next-run .ensures, lt-ltb _ _ (c .before .before .before .before .if1 .taken))
+returns c = simp (c .read-at .ensures, c .before .before .next-run .ensures, lt-ltb _ _ (c .before .before .before .before .if1 .taken))
 
 ended-at-requires : tie.Need-ended-at-requires
 ended-at-requires c κs = search needs
@@ -21,12 +21,9 @@ ended-at-requires c κs = search needs
 with-transfer-requires : tie.Need-with-transfer-requires
 with-transfer-requires c κs = search needs
 
-with-hot-requires : tie.Need-with-hot-requires
-with-hot-requires c κs = search needs
-
 returns-2 : tie.Need-returns-2
 unfolding readNextOf
-returns-2 c = simp (c .with-hot .ensures, c .before .with-transfer .ensures, c .before .before .ended-at .ensures, le-ltb _ _ (c .before .before .before .before .before .if1 .left))
+returns-2 c = simp (c .with-transfer .ensures, c .before .ended-at .ensures, le-ltb _ _ (c .before .before .if1 .left))
 
 pub read-next-spec : {M : Type 1} → statement M
 read-next-spec =
@@ -37,5 +34,4 @@ read-next-spec =
     returns
     ended-at-requires
     with-transfer-requires
-    with-hot-requires
     returns-2)

@@ -12,7 +12,7 @@ read-at-requires c κs = search needs
 
 returns : tie.Need-returns
 unfolding readSectorsOf
-returns c = simp (c .read-at .ensures, c .before .first-run .ensures)
+returns c = simp (c .read-at .ensures, c .before .before .first-run .ensures)
 
 pub read-sectors-spec : {M : Type 1} → statement M
 read-sectors-spec = tie.close (tie.spec first-run-requires read-at-requires returns)

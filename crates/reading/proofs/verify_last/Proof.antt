@@ -1,5 +1,6 @@
--- The address decides.
+-- The address decides, whatever is in the buffer.
 use Rattle.reading.specs.Sectors.{verifyLast}
+use Rattle.transfers.specs.Sectors.{notFoundOf}
 use borrow.Author.Needs.{needs}
 use Rattle.reading.proofs.verify_last.Statement.{statement}
 use Rattle.reading.proofs.verify_last.Tie as tie
@@ -13,19 +14,22 @@ enum-known-sector c = search needs
 enum-told : tie.Need-enum-told
 enum-told c = search needs
 
-not-found-requires : tie.Need-not-found-requires
-not-found-requires c κs = search needs
+missed-requires : tie.Need-missed-requires
+missed-requires c κs = search needs
 
 returns : tie.Need-returns
-unfolding verifyLast
-returns c = simp (c .not-found .ensures, c .before .enum-told .given .1, ← c .before .before .before .located .ensures)
+unfolding verifyLast notFoundOf
+returns c = λ b. simp (c .missed .ensures, c .before .enum-told .given .1, ← c .before .before .before .located .ensures)
 
-ended-well-requires : tie.Need-ended-well-requires
-ended-well-requires c κs = search needs
+ended-at-requires : tie.Need-ended-at-requires
+ended-at-requires c κs = search needs
+
+finish-requires : tie.Need-finish-requires
+finish-requires c κs = search needs
 
 returns-2 : tie.Need-returns-2
-unfolding verifyLast
-returns-2 c = simp (c .ended-well .ensures, c .before .before .sector .given .1, ← c .before .before .before .before .located .ensures)
+unfolding verifyLast notFoundOf
+returns-2 c = λ b. simp (c .finish .ensures, c .before .ended-at .ensures, c .before .before .before .sector .given .1, ← c .before .before .before .before .before .located .ensures)
 
 pub verify-last-spec : {M : Type 1} → statement M
 verify-last-spec =
@@ -34,7 +38,8 @@ verify-last-spec =
     located-requires
     enum-known-sector
     enum-told
-    not-found-requires
+    missed-requires
     returns
-    ended-well-requires
+    ended-at-requires
+    finish-requires
     returns-2)

@@ -16,26 +16,16 @@ soft-reset-requires c κs = search needs
 
 returns : tie.Need-returns
 unfolding controlOf
-returns c = simp (c .soft-reset .ensures, sym (c .before .before .srst .ensures) ∙ c .before .if1 .taken, ← c .before .before .before .nien .ensures)
+returns c = simp (sym (c .before .before .before .srst .ensures) ∙ c .before .before .if1 .taken, ← c .before .before .before .before .nien .ensures) (c .soft-reset .ensures (c .before .before .before .before .before .args .hot))
 
 released-requires : tie.Need-released-requires
 released-requires c κs = search needs
 
-with-hot-requires : tie.Need-with-hot-requires
-with-hot-requires c κs = search needs
-
 returns-2 : tie.Need-returns-2
 unfolding controlOf
-returns-2 c = simp (c .with-hot .ensures, c .before .released .ensures, sym (c .before .before .before .srst .ensures) ∙ c .before .before .if1 .left, ← c .before .before .before .before .nien .ensures)
+returns-2 c = simp (c .released .ensures, sym (c .before .before .srst .ensures) ∙ c .before .if1 .left, ← c .before .before .before .nien .ensures)
 
 pub control-spec : {M : Type 1} → statement M
 control-spec =
     tie.close
-    (tie.spec
-    nien-requires
-    srst-requires
-    soft-reset-requires
-    returns
-    released-requires
-    with-hot-requires
-    returns-2)
+    (tie.spec nien-requires srst-requires soft-reset-requires returns released-requires returns-2)

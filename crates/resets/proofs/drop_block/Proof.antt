@@ -6,15 +6,11 @@ use Rattle.resets.proofs.drop_block.Tie as tie
 zeros-requires : tie.Need-zeros-requires
 zeros-requires c κs = search needs
 
-with-buffer-requires : tie.Need-with-buffer-requires
-with-buffer-requires c κs = search needs
-
 drop-purpose-requires : tie.Need-drop-purpose-requires
 drop-purpose-requires c κs = search needs
 
 returns : tie.Need-returns
-returns c = simp (c .drop-purpose .ensures, c .before .with-buffer .ensures, c .before .before .zeros .ensures)
+returns c = λ h. simp (c .drop-purpose .ensures, c .before .zeros .ensures)
 
 pub drop-block-spec : {M : Type 1} → statement M
-drop-block-spec =
-    tie.close (tie.spec zeros-requires with-buffer-requires drop-purpose-requires returns)
+drop-block-spec = tie.close (tie.spec zeros-requires drop-purpose-requires returns)

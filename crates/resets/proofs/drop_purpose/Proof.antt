@@ -12,23 +12,23 @@ enum-told-2 c = search needs
 enum-told-3 : tie.Need-enum-told-3
 enum-told-3 c = search needs
 
-unprepared-requires : tie.Need-unprepared-requires
-unprepared-requires c κs = search needs
+unprepare-requires : tie.Need-unprepare-requires
+unprepare-requires c κs = search needs
 
 enum-told-4 : tie.Need-enum-told-4
 enum-told-4 c = search needs
 
 returns : tie.Need-returns
-returns c = simp (c .enum-told .given .1)
+returns c = λ h b. simp (c .enum-told .given .1)
 
 returns-2 : tie.Need-returns-2
-returns-2 c = simp (c .enum-told2 .given .1)
+returns-2 c = λ h b. simp (c .enum-told2 .given .1)
 
 returns-3 : tie.Need-returns-3
-returns-3 c = simp (c .unprepared .ensures, c .before .enum-told3 .given .1)
+returns-3 c = λ h b. simp (c .unprepare .ensures, c .before .enum-told3 .given .1)
 
 returns-4 : tie.Need-returns-4
-returns-4 c = simp (c .enum-told4 .given .1)
+returns-4 c = λ h b. simp (c .enum-told4 .given .1)
 
 pub drop-purpose-spec : {M : Type 1} → statement M
 drop-purpose-spec =
@@ -37,7 +37,7 @@ drop-purpose-spec =
     enum-told
     enum-told-2
     enum-told-3
-    unprepared-requires
+    unprepare-requires
     enum-told-4
     returns
     returns-2

@@ -25,22 +25,22 @@ drop-block-requires : tie.Need-drop-block-requires
 drop-block-requires c κs = search needs
 
 returns : tie.Need-returns
-returns c = simp (c .enum-told .given .1)
+returns c = λ h. simp (c .enum-told .given .1)
 
 returns-2 : tie.Need-returns-2
-returns-2 c = simp (c .before .transfer .given .1)
+returns-2 c = λ h. simp (c .before .transfer .given .1)
 
 returns-3 : tie.Need-returns-3
-returns-3 c = simp (c .before .transfer2 .given .1)
+returns-3 c = λ h. simp (c .before .transfer2 .given .1)
 
 returns-4 : tie.Need-returns-4
-returns-4 c = simp (c .before .transfer3 .given .1)
+returns-4 c = λ h. simp (c .before .transfer3 .given .1)
 
 returns-5 : tie.Need-returns-5
-returns-5 c = simp (c .before .transfer4 .given .1)
+returns-5 c = λ h. simp (c .before .transfer4 .given .1)
 
 returns-6 : tie.Need-returns-6
-returns-6 c = simp (c .drop-block .ensures, c .before .before .transfer5 .given .1)
+returns-6 c = λ h. simp (c .drop-block .ensures, c .before .before .before .transfer5 .given .1)
 
 pub drops-spec : {M : Type 1} → statement M
 drops-spec =

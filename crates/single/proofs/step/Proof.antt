@@ -24,7 +24,7 @@ enum-told : tie.Need-enum-told
 enum-told c = search needs
 
 slow-requires : tie.Need-slow-requires
-slow-requires c κs = rw (c .before .before .before .before .before .quick .ensures .1 ∙ quick-slow _ _ _ (sym (c .before .before .before .before .before .quick .ensures .0) ∙ c .before .before .before .enum-told .given .1)) (c .before .before .before .before .before .before .before .before .before .before .before .pre)
+slow-requires c κs = rw (c .before .before .before .before .before .quick .ensures .1 ∙ quick-slow _ _ _ (sym (c .before .before .before .before .before .quick .ensures .0) ∙ c .before .before .before .enum-told .given .1)) (c .before .before .before .before .before .before .before .before .before .before .before .pre, rw (c .before .before .before .before .before .before .before .hot-at .ensures) at (sym (c .before .before .before .before .before .quick .ensures .0) ∙ c .before .before .before .enum-told .given .1))
 
 same-length : tie.Need-same-length
 same-length c = search needs

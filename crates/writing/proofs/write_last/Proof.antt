@@ -1,5 +1,6 @@
 -- A named sector lies inside the memory.
 use Rattle.transfers.proofs.Reached.{memory-room}
+use Rattle.transfers.specs.Sectors.{notFoundOf}
 use Rattle.writing.specs.Words.{writeLastOf, writeLastSectors}
 use borrow.Author.Needs.{needs}
 use mathlib.Core.Path.{_∙_, refl, sym}
@@ -15,15 +16,15 @@ enum-known-sector c = search needs
 enum-told : tie.Need-enum-told
 enum-told c = search needs
 
-not-found-requires : tie.Need-not-found-requires
-not-found-requires c κs = search needs
+missed-requires : tie.Need-missed-requires
+missed-requires c κs = search needs
 
 returns : tie.Need-returns
-unfolding writeLastOf writeLastSectors
-returns c = simp (c .not-found .ensures, c .before .enum-told .given .1, ← c .before .before .before .located .ensures) (refl, refl)
+unfolding writeLastOf writeLastSectors notFoundOf
+returns c = simp (c .missed .ensures, c .before .enum-told .given .1, ← c .before .before .before .located .ensures) (refl, refl)
 
 store-requires : tie.Need-store-requires
-store-requires c κs = memory-room (c .before .before .before .before .before .before .before .before .before .pre) _ _ (sym (c .before .before .before .before .before .located .ensures) ∙ c .before .before .before .sector .given .1)
+store-requires c κs = memory-room (c .before .before .before .before .before .before .before .before .pre) _ _ (sym (c .before .before .before .before .before .located .ensures) ∙ c .before .before .before .sector .given .1)
 
 write-next-requires : tie.Need-write-next-requires
 write-next-requires c κs = search needs
@@ -42,7 +43,7 @@ write-last-spec =
     located-requires
     enum-known-sector
     enum-told
-    not-found-requires
+    missed-requires
     returns
     store-requires
     write-next-requires

@@ -13,15 +13,25 @@ want-at-requires c κs = search needs
 
 returns : tie.Need-returns
 unfolding writeNextOf
-returns c = simp (c .want-at .ensures, c .before .next-run .ensures, lt-ltb _ _ (c .before .before .before .before .if1 .taken))
+returns c = λ b. simp (c .want-at .ensures, c .before .next-run .ensures, lt-ltb _ _ (c .before .before .before .if1 .taken))
 
-ended-well-requires : tie.Need-ended-well-requires
-ended-well-requires c κs = search needs
+ended-at-requires : tie.Need-ended-at-requires
+ended-at-requires c κs = search needs
+
+finish-requires : tie.Need-finish-requires
+finish-requires c κs = search needs
 
 returns-2 : tie.Need-returns-2
 unfolding writeNextOf
-returns-2 c = simp (c .ended-well .ensures, le-ltb _ _ (c .before .before .if1 .left))
+returns-2 c = λ b. simp (c .finish .ensures, c .before .ended-at .ensures, le-ltb _ _ (c .before .before .if1 .left))
 
 pub write-next-spec : {M : Type 1} → statement M
 write-next-spec =
-    tie.close (tie.spec next-run-requires want-at-requires returns ended-well-requires returns-2)
+    tie.close
+    (tie.spec
+    next-run-requires
+    want-at-requires
+    returns
+    ended-at-requires
+    finish-requires
+    returns-2)

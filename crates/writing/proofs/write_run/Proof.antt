@@ -26,14 +26,17 @@ word-in-requires-2 : tie.Need-word-in-requires-2
 word-in-requires-2 c κs = search needs
 
 write-last-requires : tie.Need-write-last-requires
-write-last-requires c κs = rw (c .before .word-in2 .ensures) (c .before .before .before .before .before .before .pre)
+write-last-requires c κs = c .before .before .before .before .before .before .before .before .before .pre
+
+with-hot-requires-2 : tie.Need-with-hot-requires-2
+with-hot-requires-2 c κs = search needs
 
 same-length : tie.Need-same-length
 same-length c = search needs
 
 returns-2 : tie.Need-returns-2
 unfolding writeRunOf writeRunSectors
-returns-2 c = simp (c .before .before .write-last .ensures .0, c .before .before .write-last .ensures .1, c .before .before .before .before .word-in2 .ensures, le-ltb _ _ (c .before .before .before .before .before .if1 .left)) (refl, refl)
+returns-2 c = simp (c .with-hot2 .ensures, c .before .before .before .write-last .ensures .1, c .before .before .before .before .before .before .before .word-in2 .ensures, le-ltb _ _ (c .before .before .before .before .before .before .before .before .before .if1 .left)) (rw (c .before .before .before .before .before .before .before .word-in2 .ensures) at (c .before .before .before .write-last .ensures .0), refl)
 
 pub write-run-spec : {M : Type 1} → statement M
 write-run-spec =
@@ -46,5 +49,6 @@ write-run-spec =
     returns
     word-in-requires-2
     write-last-requires
+    with-hot-requires-2
     same-length
     returns-2)

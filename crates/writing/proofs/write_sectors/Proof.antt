@@ -12,7 +12,7 @@ write-at-requires c κs = search needs
 
 returns : tie.Need-returns
 unfolding writeSectorsOf
-returns c = simp (c .write-at .ensures, c .before .first-run .ensures)
+returns c = λ b. simp (c .write-at .ensures, c .before .first-run .ensures)
 
 pub write-sectors-spec : {M : Type 1} → statement M
 write-sectors-spec = tie.close (tie.spec first-run-requires write-at-requires returns)

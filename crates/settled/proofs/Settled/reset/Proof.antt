@@ -12,18 +12,9 @@ with-translation-requires c κs = search needs
 unprepare-requires : tie.Need-unprepare-requires
 unprepare-requires c κs = search needs
 
-with-security-requires : tie.Need-with-security-requires
-with-security-requires c κs = search needs
-
 returns : tie.Need-returns
-returns c = simp (c .with-security .ensures, c .before .unprepare .ensures, c .before .before .with-translation .ensures, c .before .before .before .factory .ensures)
+returns c = simp (c .unprepare .ensures, c .before .with-translation .ensures, c .before .before .factory .ensures)
 
 pub reset-spec : {M : Type 1} → statement M
 reset-spec =
-    tie.close
-    (tie.spec
-    factory-requires
-    with-translation-requires
-    unprepare-requires
-    with-security-requires
-    returns)
+    tie.close (tie.spec factory-requires with-translation-requires unprepare-requires returns)
