@@ -18,8 +18,8 @@ use geometry::Initialized;
 use lock::Purpose;
 use settled::Settled;
 
-// A command that leaves the settled part as it is.
-fn keeps(settled: Settled, hot: Hot) -> Front
+// What a command leaves of settled and hot part.
+fn leaves(settled: Settled, hot: Hot) -> Front
     ensures { λ r. ⌜ (r .hot ≡ hot) × (r .settled ≡ settled) ⌝ }
 {
     Front { hot, settled }
@@ -65,9 +65,9 @@ fn initialize_parameters(hot: Hot, settled: Settled) -> Front
     let geometry = settled.geometry;
     let regs = hot.regs;
     let Initialized::To(translation) = geometry.initialize(regs.count, regs.at.head) else {
-        return keeps(settled, hot.abort());
+        return leaves(settled, hot.abort());
     };
-    keeps(settled.with_translation(translation), hot.finish())
+    leaves(settled.with_translation(translation), hot.finish())
 }
 
 // EXECUTE DEVICE DIAGNOSTIC (90h).
@@ -113,7 +113,7 @@ fn erase_prepare(hot: Hot, settled: Settled) -> Front
     ensures { λ r. ⌜ ((b : List ℕ) → faceWith (r .hot) (r .settled) b ≡ erasePrepareOf (faceWith hot settled b)) ⌝ }
 {
     let security = settled.security;
-    keeps(settled.with_security(security.prepare()), hot.finish())
+    leaves(settled.with_security(security.prepare()), hot.finish())
 }
 
 // SECURITY FREEZE LOCK (F5h).
@@ -121,7 +121,7 @@ fn freeze_lock(hot: Hot, settled: Settled) -> Front
     ensures { λ r. ⌜ ((b : List ℕ) → faceWith (r .hot) (r .settled) b ≡ freezeLockOf (faceWith hot settled b)) ⌝ }
 {
     let security = settled.security;
-    keeps(settled.with_security(security.freeze()), hot.finish())
+    leaves(settled.with_security(security.freeze()), hot.finish())
 }
 
 // A command that nothing bars.
@@ -136,26 +136,26 @@ fn run(
     ensures { λ r. ⌜ faceWith (r .hot) (r .settled) (now (buffer .exit)) ≡ runOf (faceWith hot settled (now (buffer .entry))) (now (sectors .entry)) command ⌝ }
 {
     match command {
-        Command::Unknown => keeps(settled, hot.abort()),
-        Command::Recalibrate => keeps(settled, recalibrate(hot)),
-        Command::ReadSectors => keeps(
+        Command::Unknown => leaves(settled, hot.abort()),
+        Command::Recalibrate => leaves(settled, recalibrate(hot)),
+        Command::ReadSectors => leaves(
             settled,
             reading::read_sectors(hot, settled, buffer, sectors),
         ),
-        Command::WriteSectors => keeps(settled, writing::write_sectors(hot, settled)),
-        Command::VerifySectors => keeps(settled, reading::verify_sectors(hot, settled)),
-        Command::Seek => keeps(settled, seek(hot, settled)),
-        Command::ExecuteDiagnostic => keeps(settled, diagnostic(hot)),
+        Command::WriteSectors => leaves(settled, writing::write_sectors(hot, settled)),
+        Command::VerifySectors => leaves(settled, reading::verify_sectors(hot, settled)),
+        Command::Seek => leaves(settled, seek(hot, settled)),
+        Command::ExecuteDiagnostic => leaves(settled, diagnostic(hot)),
         Command::InitializeParameters => initialize_parameters(hot, settled),
-        Command::ReadBuffer => keeps(settled, read_buffer(hot)),
-        Command::WriteBuffer => keeps(settled, write_buffer(hot)),
-        Command::IdentifyDevice => keeps(settled, identify_device(hot, settled, buffer)),
-        Command::SecuritySetPassword => keeps(settled, take_password(hot, Purpose::Set)),
-        Command::SecurityUnlock => keeps(settled, take_password(hot, Purpose::Unlock)),
+        Command::ReadBuffer => leaves(settled, read_buffer(hot)),
+        Command::WriteBuffer => leaves(settled, write_buffer(hot)),
+        Command::IdentifyDevice => leaves(settled, identify_device(hot, settled, buffer)),
+        Command::SecuritySetPassword => leaves(settled, take_password(hot, Purpose::Set)),
+        Command::SecurityUnlock => leaves(settled, take_password(hot, Purpose::Unlock)),
         Command::SecurityErasePrepare => erase_prepare(hot, settled),
-        Command::SecurityEraseUnit => keeps(settled, take_password(hot, Purpose::Erase)),
+        Command::SecurityEraseUnit => leaves(settled, take_password(hot, Purpose::Erase)),
         Command::SecurityFreezeLock => freeze_lock(hot, settled),
-        Command::SecurityDisablePassword => keeps(settled, take_password(hot, Purpose::Disable)),
+        Command::SecurityDisablePassword => leaves(settled, take_password(hot, Purpose::Disable)),
     }
 }
 
@@ -165,7 +165,7 @@ fn begun(hot: Hot, settled: Settled, buffer: &mut [u8; 512]) -> Front
 {
     let dropped = resets::drop_transfer(hot, settled, buffer);
     let left = dropped.hot;
-    keeps(dropped.settled, left.cleared())
+    leaves(dropped.settled, left.cleared())
 }
 
 // A command that may not run; F4h's abort ends the preparation.
@@ -173,9 +173,9 @@ fn abort_at_once(hot: Hot, settled: Settled, code: u8) -> Front
     ensures { λ r. ⌜ ((b : List ℕ) → faceWith (r .hot) (r .settled) b ≡ abortAtOnce (faceWith hot settled b) code) ⌝ }
 {
     if code == 0xF4 {
-        return keeps(settled.unprepare(), hot.abort());
+        return leaves(settled.unprepare(), hot.abort());
     }
-    keeps(settled, hot.abort())
+    leaves(settled, hot.abort())
 }
 
 // Lock state, then attempts and preparation, then the command.
@@ -209,7 +209,7 @@ pub fn command(
     ensures { λ r. ⌜ faceWith (r .hot) (r .settled) (now (buffer .exit)) ≡ commandOf (faceWith hot settled (now (buffer .entry))) (now (sectors .entry)) code ⌝ }
 {
     if hot.signals.held {
-        return keeps(settled, hot);
+        return leaves(settled, hot);
     }
     let front = begun(hot, settled, buffer);
     stations(front, code, buffer, sectors)

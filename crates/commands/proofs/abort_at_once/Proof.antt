@@ -11,22 +11,22 @@ unprepare-requires c κs = search needs
 abort-requires : tie.Need-abort-requires
 abort-requires c κs = search needs
 
-keeps-requires : tie.Need-keeps-requires
-keeps-requires c κs = search needs
+leaves-requires : tie.Need-leaves-requires
+leaves-requires c κs = search needs
 
 returns : tie.Need-returns
 unfolding abortAtOnce
-returns c = λ b. simp (c .keeps .ensures .0, c .keeps .ensures .1, c .before .abort .ensures, c .before .before .unprepare .ensures, eq-eqb _ _ (c .before .before .before .if1 .taken))
+returns c = λ b. simp (c .leaves .ensures .0, c .leaves .ensures .1, c .before .abort .ensures, c .before .before .unprepare .ensures, eq-eqb _ _ (c .before .before .before .if1 .taken))
 
 abort-requires-2 : tie.Need-abort-requires-2
 abort-requires-2 c κs = search needs
 
-keeps-requires-2 : tie.Need-keeps-requires-2
-keeps-requires-2 c κs = search needs
+leaves-requires-2 : tie.Need-leaves-requires-2
+leaves-requires-2 c κs = search needs
 
 returns-2 : tie.Need-returns-2
 unfolding abortAtOnce
-returns-2 c = λ b. simp (c .keeps2 .ensures .0, c .keeps2 .ensures .1, c .before .abort2 .ensures, ne-eqb _ _ (c .before .before .if1 .left))
+returns-2 c = λ b. simp (c .leaves2 .ensures .0, c .leaves2 .ensures .1, c .before .abort2 .ensures, ne-eqb _ _ (c .before .before .if1 .left))
 
 pub abort-at-once-spec : {M : Type 1} → statement M
 abort-at-once-spec =
@@ -34,8 +34,8 @@ abort-at-once-spec =
     (tie.spec
     unprepare-requires
     abort-requires
-    keeps-requires
+    leaves-requires
     returns
     abort-requires-2
-    keeps-requires-2
+    leaves-requires-2
     returns-2)

@@ -10,11 +10,11 @@ drop-transfer-requires c κs = search needs
 cleared-requires : tie.Need-cleared-requires
 cleared-requires c κs = search needs
 
-keeps-requires : tie.Need-keeps-requires
-keeps-requires c κs = search needs
+leaves-requires : tie.Need-leaves-requires
+leaves-requires c κs = search needs
 
 returns : tie.Need-returns
-returns c = simp (c .keeps .ensures .0, c .keeps .ensures .1, c .before .cleared .ensures) (begun-dropped _ _ (c .before .before .before .drop-transfer .ensures))
+returns c = simp (c .leaves .ensures .0, c .leaves .ensures .1, c .before .cleared .ensures) (begun-dropped _ _ (c .before .before .before .drop-transfer .ensures))
 
 pub begun-spec : {M : Type 1} → statement M
-begun-spec = tie.close (tie.spec drop-transfer-requires cleared-requires keeps-requires returns)
+begun-spec = tie.close (tie.spec drop-transfer-requires cleared-requires leaves-requires returns)

@@ -5,12 +5,12 @@ use borrow.Author.Needs.{needs}
 use Rattle.commands.proofs.command.Statement.{statement}
 use Rattle.commands.proofs.command.Tie as tie
 
-keeps-requires : tie.Need-keeps-requires
-keeps-requires c κs = search needs
+leaves-requires : tie.Need-leaves-requires
+leaves-requires c κs = search needs
 
 returns : tie.Need-returns
 unfolding commandOf
-returns c = simp (c .keeps .ensures .0, c .keeps .ensures .1, c .before .if1 .taken)
+returns c = simp (c .leaves .ensures .0, c .leaves .ensures .1, c .before .if1 .taken)
 
 begun-requires : tie.Need-begun-requires
 begun-requires c κs = search needs
@@ -24,4 +24,4 @@ returns-2 c = simp (c .stations .ensures, c .before .before .begun .ensures, c .
 
 pub command-spec : {M : Type 1} → statement M
 command-spec =
-    tie.close (tie.spec keeps-requires returns begun-requires stations-requires returns-2)
+    tie.close (tie.spec leaves-requires returns begun-requires stations-requires returns-2)

@@ -13,14 +13,14 @@ with-security-requires c κs = search needs
 finish-requires : tie.Need-finish-requires
 finish-requires c κs = search needs
 
-keeps-requires : tie.Need-keeps-requires
-keeps-requires c κs = search needs
+leaves-requires : tie.Need-leaves-requires
+leaves-requires c κs = search needs
 
 returns : tie.Need-returns
 unfolding erasePrepareOf
-returns c = λ b. simp (c .keeps .ensures .0, c .keeps .ensures .1, c .before .finish .ensures, c .before .before .with-security .ensures, c .before .before .before .prepare .ensures)
+returns c = λ b. simp (c .leaves .ensures .0, c .leaves .ensures .1, c .before .finish .ensures, c .before .before .with-security .ensures, c .before .before .before .prepare .ensures)
 
 pub erase-prepare-spec : {M : Type 1} → statement M
 erase-prepare-spec =
     tie.close
-    (tie.spec prepare-requires with-security-requires finish-requires keeps-requires returns)
+    (tie.spec prepare-requires with-security-requires finish-requires leaves-requires returns)

@@ -13,14 +13,14 @@ with-security-requires c κs = search needs
 finish-requires : tie.Need-finish-requires
 finish-requires c κs = search needs
 
-keeps-requires : tie.Need-keeps-requires
-keeps-requires c κs = search needs
+leaves-requires : tie.Need-leaves-requires
+leaves-requires c κs = search needs
 
 returns : tie.Need-returns
 unfolding freezeLockOf
-returns c = λ b. simp (c .keeps .ensures .0, c .keeps .ensures .1, c .before .finish .ensures, c .before .before .with-security .ensures, c .before .before .before .freeze .ensures)
+returns c = λ b. simp (c .leaves .ensures .0, c .leaves .ensures .1, c .before .finish .ensures, c .before .before .with-security .ensures, c .before .before .before .freeze .ensures)
 
 pub freeze-lock-spec : {M : Type 1} → statement M
 freeze-lock-spec =
     tie.close
-    (tie.spec freeze-requires with-security-requires finish-requires keeps-requires returns)
+    (tie.spec freeze-requires with-security-requires finish-requires leaves-requires returns)

@@ -16,12 +16,12 @@ enum-told c = search needs
 abort-requires : tie.Need-abort-requires
 abort-requires c κs = search needs
 
-keeps-requires : tie.Need-keeps-requires
-keeps-requires c κs = search needs
+leaves-requires : tie.Need-leaves-requires
+leaves-requires c κs = search needs
 
 returns : tie.Need-returns
 unfolding initializeParametersOf
-returns c = λ b. simp (c .keeps .ensures .0, c .keeps .ensures .1, c .before .abort .ensures, c .before .before .enum-told .given .1, ← c .before .before .before .before .initialize .ensures)
+returns c = λ b. simp (c .leaves .ensures .0, c .leaves .ensures .1, c .before .abort .ensures, c .before .before .enum-told .given .1, ← c .before .before .before .before .initialize .ensures)
 
 with-translation-requires : tie.Need-with-translation-requires
 with-translation-requires c κs = search needs
@@ -29,12 +29,12 @@ with-translation-requires c κs = search needs
 finish-requires : tie.Need-finish-requires
 finish-requires c κs = search needs
 
-keeps-requires-2 : tie.Need-keeps-requires-2
-keeps-requires-2 c κs = search needs
+leaves-requires-2 : tie.Need-leaves-requires-2
+leaves-requires-2 c κs = search needs
 
 returns-2 : tie.Need-returns-2
 unfolding initializeParametersOf
-returns-2 c = λ b. simp (c .keeps2 .ensures .0, c .keeps2 .ensures .1, c .before .finish .ensures, c .before .before .with-translation .ensures, c .before .before .before .before .translation .given .1, ← c .before .before .before .before .before .before .initialize .ensures)
+returns-2 c = λ b. simp (c .leaves2 .ensures .0, c .leaves2 .ensures .1, c .before .finish .ensures, c .before .before .with-translation .ensures, c .before .before .before .before .translation .given .1, ← c .before .before .before .before .before .before .initialize .ensures)
 
 pub initialize-parameters-spec : {M : Type 1} → statement M
 initialize-parameters-spec =
@@ -44,9 +44,9 @@ initialize-parameters-spec =
     enum-known-translation
     enum-told
     abort-requires
-    keeps-requires
+    leaves-requires
     returns
     with-translation-requires
     finish-requires
-    keeps-requires-2
+    leaves-requires-2
     returns-2)
