@@ -1,4 +1,6 @@
 // Registers 3 to 6 as an address: the sector that they name or that they fault.
+#![tactic(auto)]
+
 ghost use Rattle.std.specs.Prelude.{◌≡◌};
 ghost use Rattle.address.specs.Registers.{lba_selected, lba_of, cylinder_of, head_of, with_cylinder, with_head};
 ghost use Rattle.address.specs.Address.{lba_address, chs_address, address_of};
@@ -6,7 +8,7 @@ ghost use Rattle.address.specs.Address.{lba_address, chs_address, address_of};
 use geometry::{Geometry, Translation};
 
 // Sector Number (3), Cylinder Low (4), Cylinder High (5), and all eight bits of Device/Head (6).
-#[derive(Drop)]
+#[derive(Clone, Copy)]
 pub struct AddressRegisters {
     pub sector: u8,
     pub low: u8,
@@ -15,13 +17,13 @@ pub struct AddressRegisters {
 }
 
 // A sector that an address names.
-#[derive(Drop)]
+#[derive(Clone, Copy)]
 pub struct Sector {
     pub number: u32,
 }
 
 // Either an address names a sector or it faults (IDNF).
-#[derive(Drop)]
+#[derive(Clone, Copy)]
 pub enum Address {
     Names(Sector),
     Faults,
@@ -29,6 +31,7 @@ pub enum Address {
 
 impl AddressRegisters {
     // Device/Head bit 6: LBA, else CHS.
+    #[tactic(auto, using(base::proofs::Tests::picks), unfolding(crate::specs::Registers::lba_selected))]
     pub fn lba_selected(self) -> bool
         ensures { result ≡ lba_selected self }
     {
@@ -36,6 +39,7 @@ impl AddressRegisters {
     }
 
     // The 28 bits of an LBA, Sector Number lowest, head nibble highest.
+    #[tactic(auto, using(base::proofs::Tests::picks), unfolding(crate::specs::Registers::lba_of, crate::specs::Registers::head_of))]
     pub fn lba(self) -> u32
         ensures { result ≡ lba_of self }
     {
@@ -46,6 +50,7 @@ impl AddressRegisters {
     }
 
     // Cylinder Low and Cylinder High.
+    #[tactic(auto, using(base::proofs::Tests::picks), unfolding(crate::specs::Registers::cylinder_of))]
     pub fn cylinder(self) -> u16
         ensures { result ≡ cylinder_of self }
     {
@@ -53,6 +58,7 @@ impl AddressRegisters {
     }
 
     // The head nibble.
+    #[tactic(auto, using(base::proofs::Tests::picks), unfolding(crate::specs::Registers::head_of))]
     pub fn head_number(self) -> u8
         ensures { result ≡ head_of self }
     {
@@ -76,6 +82,7 @@ impl AddressRegisters {
         self
     }
 
+    #[tactic(auto, using(base::proofs::Tests::picks), unfolding(crate::specs::Address::lba_address))]
     fn lba_address(self, capacity: u32) -> Address
         ensures { result ≡ lba_address capacity self }
     {
@@ -87,6 +94,7 @@ impl AddressRegisters {
         }
     }
 
+    #[tactic(auto, using(base::proofs::Tests::picks), unfolding(crate::specs::Address::chs_address, crate::specs::Address::chs_number))]
     fn chs_address(self, t: Translation) -> Address
         ensures { result ≡ chs_address t self }
     {
@@ -107,6 +115,7 @@ impl AddressRegisters {
     }
 
     // The sector that the registers name, in LBA below the geometry's capacity, in CHS by the translation in force.
+    #[tactic(auto, using(base::proofs::Tests::picks), unfolding(crate::specs::Address::address_of))]
     pub fn address(self, g: Geometry, t: Translation) -> Address
         ensures { result ≡ address_of g t self }
     {

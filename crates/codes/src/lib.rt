@@ -1,4 +1,6 @@
 // Command codes: which command a code is, in which lock state it may run, and what bars it besides.
+#![tactic(auto)]
+
 ghost use Rattle.std.specs.Prelude.{◌≡◌};
 ghost use Rattle.codes.specs.Commands.{coded_of, decode_of};
 ghost use Rattle.codes.specs.MayRun.{not_locked, not_frozen, runs_in, may_run_of, barred_of};
@@ -6,7 +8,7 @@ ghost use Rattle.codes.specs.MayRun.{not_locked, not_frozen, runs_in, may_run_of
 use lock::{Lock, Security};
 
 // The commands of the device; Unknown is any other code.
-#[derive(Drop)]
+#[derive(Clone, Copy)]
 pub enum Command {
     Unknown,
     Recalibrate,
@@ -28,6 +30,7 @@ pub enum Command {
 }
 
 // The commands with one or two codes each.
+#[tactic(auto, using(base::proofs::Tests::picks), unfolding(crate::specs::Commands::coded_of))]
 fn coded(code: u8) -> Command
     ensures { result ≡ coded_of code }
 {
@@ -54,6 +57,7 @@ fn coded(code: u8) -> Command
 }
 
 // The command of a code.
+#[tactic(auto, using(base::proofs::Tests::picks), unfolding(crate::specs::Commands::decode_of))]
 pub fn decode(code: u8) -> Command
     ensures { result ≡ decode_of code }
 {
@@ -88,6 +92,7 @@ fn not_frozen(lock: Lock) -> bool
 
 impl Command {
     // Whether the command runs in this lock state, or aborts at once.
+    #[tactic(auto, using(base::proofs::Tests::picks))]
     fn runs_in(self, lock: Lock) -> bool
         ensures { result ≡ runs_in self lock }
     {
@@ -113,6 +118,7 @@ impl Command {
     }
 
     // Whether attempts or preparation bar a command that may run.
+    #[tactic(auto, using(base::proofs::Tests::picks))]
     pub fn barred(self, security: Security) -> bool
         ensures { result ≡ barred_of self security }
     {
@@ -139,6 +145,7 @@ impl Command {
 }
 
 // Whether a code may run in a lock state, or aborts at once: the one place that says so.
+#[tactic(auto, using(base::proofs::Tests::picks), unfolding(crate::specs::MayRun::may_run_of))]
 pub fn may_run(code: u8, lock: Lock) -> bool
     ensures { result ≡ may_run_of code lock }
 {

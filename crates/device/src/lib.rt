@@ -1,4 +1,6 @@
 // The device: one disk alone on its cable. Setup, the host's actions with every refusal, and the rules for DEV.
+#![tactic(auto)]
+
 ghost use Rattle.std.specs.Prelude.{◌≡◌};
 ghost use Rattle.transfers.specs.Sectors.{Memory};
 ghost use Rattle.device.specs.Setup.{zero_device, fresh_of, setup_of};
@@ -11,14 +13,14 @@ use geometry::{Checked, Geometry};
 use lock::Secrets;
 use settled::{Identity, Settled};
 
-#[derive(Drop)]
+#[derive(Clone, Copy)]
 pub struct Device {
     pub face: Face,
     pub secrets: Secrets,
 }
 
 // The answer's number and value, and the device as the action left it.
-#[derive(Drop)]
+#[derive(Clone, Copy)]
 pub struct Outcome {
     pub number: u8,
     pub value: u16,
@@ -26,6 +28,7 @@ pub struct Outcome {
 }
 
 // The record that a refused setup hands back: every number 0, no mark set.
+#[tactic(auto, using(base::proofs::Tests::picks))]
 fn zero_device() -> Device
     ensures { result ≡ zero_device }
 {
@@ -35,6 +38,7 @@ fn zero_device() -> Device
 }
 
 // A disk of this geometry, identity and master password, just powered on.
+#[tactic(auto, using(base::proofs::Tests::picks))]
 fn fresh(geometry: Geometry, identity: Identity, master: [u8; 32]) -> Device
     ensures { result ≡ fresh_of geometry identity master }
 {
@@ -45,6 +49,7 @@ fn fresh(geometry: Geometry, identity: Identity, master: [u8; 32]) -> Device
 }
 
 // The clauses of answer 2 on DEV.
+#[tactic(auto, using(base::proofs::Tests::picks), unfolding(crate::specs::Host::alone_fits))]
 fn alone_fits(hot: Hot) -> bool
     ensures { result ≡ alone_fits hot }
 {
@@ -58,6 +63,7 @@ fn alone_fits(hot: Hot) -> bool
 }
 
 // The clauses of answer 2, over the parts that they speak of.
+#[tactic(auto, using(base::proofs::Tests::picks))]
 pub fn fits(settled: Settled, hot: Hot) -> bool
     ensures { result ≡ parts_shaped settled hot }
 {
@@ -79,6 +85,7 @@ fn told(left: Acted) -> Outcome
 }
 
 impl Device {
+    #[tactic(auto, using(base::proofs::Tests::picks))]
     fn shows(self, answer: Answer, value: u16) -> Outcome
         ensures { result ≡ outcome self answer value }
     {
@@ -90,6 +97,7 @@ impl Device {
     }
 
     // Setup: refused outside the limits, else a disk just powered on.
+    #[tactic(auto, using(base::proofs::Tests::picks), unfolding(crate::specs::Setup::setup_of))]
     pub fn setup(
         cylinders: u16,
         heads: u8,
@@ -109,6 +117,7 @@ impl Device {
     }
 
     // The clauses of answer 2.
+    #[tactic(auto, using(base::proofs::Tests::picks), unfolding(crate::specs::Host::shaped_of))]
     pub fn shaped(self) -> bool
         ensures { result ≡ shaped_of self }
     {
@@ -117,6 +126,7 @@ impl Device {
     }
 
     // The disk's own action.
+    #[tactic(auto, using(base::proofs::Tests::picks))]
     fn acted(self, action: Action, sectors: &mut [u8]) -> Outcome
         requires { Memory self.face.settled.geometry self.face.settled.translation sectors.old }
         ensures { (result ≡ (acted_of self sectors.old action).outcome) × (sectors.new ≡ (acted_of self sectors.old action).sectors) }
@@ -126,6 +136,7 @@ impl Device {
     }
 
     // An action over the disk's own memory, the long way.
+    #[tactic(auto, using(base::proofs::Tests::picks), unfolding(crate::specs::Alone::alone_of))]
     pub fn act(self, action: Action, sectors: &mut [u8]) -> Outcome
         requires { Memory self.face.settled.geometry self.face.settled.translation sectors.old }
         ensures { (result ≡ (alone_of self sectors.old action).outcome) × (sectors.new ≡ (alone_of self sectors.old action).sectors) }
@@ -139,6 +150,7 @@ impl Device {
     }
 
     // What the fast path settled, put in place.
+    #[tactic(auto, using(base::proofs::Tests::picks))]
     fn settles(mut self, buffer: [u8; 512], seen: Seen) -> Outcome
         ensures { result ≡ quick_outcome self buffer seen }
     {
@@ -150,6 +162,7 @@ impl Device {
     }
 
     // The same action, by the fast path where it settles it.
+    #[tactic(auto, using(base::proofs::Tests::picks))]
     fn step(self, action: Action, sectors: &mut [u8]) -> Outcome
         requires { Memory self.face.settled.geometry self.face.settled.translation sectors.old }
         ensures { (result ≡ (alone_of self sectors.old action).outcome) × (sectors.new ≡ (alone_of self sectors.old action).sectors) }
@@ -165,6 +178,7 @@ impl Device {
     }
 
     // Any host action on any device over any memory.
+    #[tactic(auto, using(base::proofs::Tests::picks), unfolding(crate::specs::Host::step_of))]
     pub fn host(self, action: Action, sectors: &mut [u8]) -> Outcome
         ensures { (result ≡ (step_of self sectors.old action).outcome) × (sectors.new ≡ (step_of self sectors.old action).sectors) }
     {

@@ -1,4 +1,6 @@
 // What an action leaves of a disk and shows, the passwords included.
+#![tactic(auto)]
+
 ghost use Rattle.std.specs.Prelude.{◌≡◌};
 ghost use Rattle.effects.specs.Effects.{acted};
 
@@ -6,7 +8,7 @@ use face::{Answer, Face};
 use lock::Secrets;
 
 // What an action leaves of a disk, and what it shows.
-#[derive(Drop)]
+#[derive(Clone, Copy)]
 pub struct Acted {
     pub face: Face,
     pub secrets: Secrets,

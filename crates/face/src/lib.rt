@@ -1,4 +1,6 @@
 // All that a guest's answers may depend on: the register file and the transfer (hot), what commands seldom touch (settled), the buffer.
+#![tactic(auto)]
+
 ghost use Rattle.std.specs.Prelude.{◌≡◌, ◌<◌};
 ghost use Rattle.face.specs.Registers.{start_registers};
 ghost use Rattle.face.specs.Face.{no_signals, start_hot, with_regs, with_transfer, face_with, with_hot, with_settled, with_buffer, next_word, next_password_word};
@@ -12,7 +14,7 @@ use lock::Purpose;
 use settled::Settled;
 
 // Registers 1 to 6: Error as read, Features as written, Sector Count, and the address.
-#[derive(Drop)]
+#[derive(Clone, Copy)]
 pub struct Registers {
     pub error: u8,
     pub features: u8,
@@ -21,7 +23,7 @@ pub struct Registers {
 }
 
 // Reset held (SRST), interrupt masked (nIEN), interrupt raised, and whether the last command failed.
-#[derive(Drop)]
+#[derive(Clone, Copy)]
 pub struct Signals {
     pub held: bool,
     pub masked: bool,
@@ -31,7 +33,7 @@ pub struct Signals {
 
 // A sector transfer: the place of the next word, how many sectors come after the current one, and that one's address.
 // The place is the first byte of every transfer that has one: so they share their bytes and stay in registers.
-#[derive(Drop)]
+#[derive(Clone, Copy)]
 pub struct Run {
     pub word: u8,
     pub after: u8,
@@ -39,14 +41,14 @@ pub struct Run {
 }
 
 // A password block on its way: the place of the next word, and what the block is for.
-#[derive(Drop)]
+#[derive(Clone, Copy)]
 pub struct PasswordBlock {
     pub word: u8,
     pub purpose: Purpose,
 }
 
 // The transfer that is open. READ BUFFER and IDENTIFY both hand the buffer out.
-#[derive(Drop)]
+#[derive(Clone, Copy)]
 pub enum Transfer {
     Idle,
     Reading(Run),
@@ -57,14 +59,14 @@ pub enum Transfer {
 }
 
 // The register file and the transfer: no arrays.
-#[derive(Drop)]
+#[derive(Clone, Copy)]
 pub struct Hot {
     pub regs: Registers,
     pub signals: Signals,
     pub transfer: Transfer,
 }
 
-#[derive(Drop)]
+#[derive(Clone, Copy)]
 pub struct Face {
     pub hot: Hot,
     pub settled: Settled,
@@ -72,14 +74,14 @@ pub struct Face {
 }
 
 // The face but for its buffer, which is lent to what may change it.
-#[derive(Drop)]
+#[derive(Clone, Copy)]
 pub struct Front {
     pub hot: Hot,
     pub settled: Settled,
 }
 
 // The host's actions.
-#[derive(Drop)]
+#[derive(Clone, Copy)]
 pub enum Action {
     ReadRegister(u8),
     WriteRegister(u8, u8),
@@ -91,7 +93,7 @@ pub enum Action {
 }
 
 // The answers, by the paper's numbers 0 to 4 and 6.
-#[derive(Drop)]
+#[derive(Clone, Copy)]
 pub enum Answer {
     Done,
     NoRegister,
@@ -102,7 +104,7 @@ pub enum Answer {
 }
 
 // What an action on the hot part alone shows.
-#[derive(Drop)]
+#[derive(Clone, Copy)]
 pub struct Seen {
     pub hot: Hot,
     pub answer: Answer,
@@ -110,7 +112,7 @@ pub struct Seen {
 }
 
 // What the hot part and the buffer settle, or that more is needed.
-#[derive(Drop)]
+#[derive(Clone, Copy)]
 pub enum Quick {
     Settles(Seen),
     Slow,
@@ -176,6 +178,7 @@ fn no_signals() -> Signals
 
 impl Hot {
     // Start values, nothing signalled, no transfer.
+    #[tactic(auto, using(base::proofs::Tests::picks))]
     pub fn start() -> Hot
         ensures { result ≡ start_hot }
     {
@@ -222,6 +225,7 @@ impl Hot {
     }
 
     // Status, but for DEV.
+    #[tactic(auto, using(base::proofs::Tests::picks), unfolding(crate::specs::Reads::status_of))]
     pub fn status(self) -> u8
         ensures { result ≡ status_of self }
     {
@@ -255,6 +259,7 @@ impl Hot {
     }
 
     // A register is read, but for DEV.
+    #[tactic(auto, using(base::proofs::Tests::picks), unfolding(crate::specs::Reads::read_register))]
     pub fn read_register(self, n: u8) -> Seen
         ensures { result ≡ read_register self n }
     {
@@ -272,6 +277,7 @@ impl Hot {
     }
 
     // The interrupt line: raised and not masked.
+    #[tactic(auto, using(base::proofs::Tests::picks), unfolding(crate::specs::Reads::line_of))]
     pub fn line(self) -> u16
         ensures { result ≡ line_of self }
     {
@@ -285,6 +291,7 @@ impl Hot {
     }
 
     // Reset held, or a transfer open: writes to registers 1 to 6 do nothing.
+    #[tactic(auto, using(base::proofs::Tests::picks), unfolding(crate::specs::Writes::busy_of))]
     fn busy(self) -> bool
         ensures { result ≡ busy_of self }
     {
@@ -297,6 +304,7 @@ impl Hot {
         true
     }
 
+    #[tactic(auto, using(base::proofs::Tests::picks), unfolding(crate::specs::Writes::store_register))]
     fn store_register(mut self, n: u8, v: u8) -> Hot
         ensures { result ≡ store_register self n v }
     {
@@ -329,6 +337,7 @@ impl Hot {
     }
 
     // One of registers 1 to 6 is written.
+    #[tactic(auto, using(base::proofs::Tests::picks), unfolding(crate::specs::Writes::put_register))]
     pub fn put_register(self, n: u8, v: u8) -> Hot
         ensures { result ≡ put_register self n v }
     {
@@ -390,6 +399,7 @@ impl Hot {
     }
 
     // EXECUTE DEVICE DIAGNOSTIC's register values.
+    #[tactic(auto, using(base::proofs::Tests::picks))]
     pub fn restarted(self) -> Hot
         ensures { result ≡ with_regs self start_registers }
     {
@@ -455,6 +465,7 @@ impl Face {
 }
 
 // Registers, signals and transfer of a record all zero.
+#[tactic(auto, using(base::proofs::Tests::picks))]
 fn zero_hot() -> Hot
     ensures { result ≡ zero_hot }
 {
@@ -479,6 +490,7 @@ fn zero_hot() -> Hot
 }
 
 // The face of a record all zero.
+#[tactic(auto, using(base::proofs::Tests::picks))]
 pub fn zero_face() -> Face
     ensures { result ≡ zero_face }
 {

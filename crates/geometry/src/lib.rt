@@ -1,10 +1,12 @@
 // The factory geometry, and the translation that CHS addresses go by: the factory's or 91h's.
+#![tactic(auto)]
+
 ghost use Rattle.std.specs.Prelude.{◌≡◌, ◌<◌};
 ghost use Rattle.geometry.specs.Geometry.{geometry_fits, checked_of, capacity_of};
 ghost use Rattle.geometry.specs.Translation.{factory_of, initialized_of, cylinders_for, translation_allowed, product_of};
 
 // The factory's three counts. A record of this type may hold any counts: `fits` says whether it is a geometry.
-#[derive(Drop)]
+#[derive(Clone, Copy)]
 pub struct Geometry {
     pub cylinders: u16,
     pub heads: u8,
@@ -12,14 +14,14 @@ pub struct Geometry {
 }
 
 // Three counts, checked.
-#[derive(Drop)]
+#[derive(Clone, Copy)]
 pub enum Checked {
     Within(Geometry),
     OutsideLimits,
 }
 
 // How CHS addresses are counted: cylinders, heads and sectors per track in force.
-#[derive(Drop)]
+#[derive(Clone, Copy)]
 pub struct Translation {
     pub cylinders: u16,
     pub heads: u8,
@@ -27,7 +29,7 @@ pub struct Translation {
 }
 
 // What INITIALIZE DEVICE PARAMETERS (91h) makes of its two registers.
-#[derive(Drop)]
+#[derive(Clone, Copy)]
 pub enum Initialized {
     To(Translation),
     Aborted,
@@ -41,6 +43,7 @@ impl Geometry {
     pub const MAX_SECTORS: u8 = 63;
 
     // Whether each count is from 1 to its ceiling.
+    #[tactic(auto, using(base::proofs::Tests::picks), unfolding(crate::specs::Geometry::geometry_fits, crate::specs::Geometry::max_cylinders, crate::specs::Geometry::max_heads, crate::specs::Geometry::max_sectors))]
     pub fn fits(self) -> bool
         ensures { result ≡ geometry_fits self }
     {
@@ -54,6 +57,7 @@ impl Geometry {
     }
 
     // The geometry of three counts, where they are within the limits.
+    #[tactic(auto, using(base::proofs::Tests::picks), unfolding(crate::specs::Geometry::checked_of))]
     pub fn new(cylinders: u16, heads: u8, sectors: u8) -> Checked
         ensures { result ≡ checked_of cylinders heads sectors }
     {
@@ -70,6 +74,7 @@ impl Geometry {
     }
 
     // How many sectors the disk has.
+    #[tactic(auto, using(base::proofs::Tests::picks), unfolding(crate::specs::Geometry::capacity_of, crate::specs::Translation::product_of))]
     pub fn capacity(self) -> u32
         ensures { result ≡ capacity_of self }
     {
@@ -88,6 +93,7 @@ impl Geometry {
     }
 
     // The most cylinders of so many heads and sectors that the capacity holds, as far as the registers count them.
+    #[tactic(auto, using(base::proofs::Tests::picks), unfolding(crate::specs::Translation::cylinders_for))]
     fn cylinders_for(self, heads: u8, sectors: u8) -> u16
         requires { (0 < heads) × (0 < sectors) }
         ensures { result ≡ cylinders_for self heads sectors }
@@ -97,6 +103,7 @@ impl Geometry {
     }
 
     // 91h, from Sector Count and Device/Head.
+    #[tactic(auto, using(base::proofs::Tests::picks), unfolding(crate::specs::Translation::initialized_of))]
     pub fn initialize(self, count: u8, head: u8) -> Initialized
         ensures { result ≡ initialized_of self count head }
     {
@@ -118,6 +125,7 @@ impl Geometry {
 
 impl Translation {
     // Whether 91h could have made this translation on a disk of that geometry; the factory's is one such.
+    #[tactic(auto, using(base::proofs::Tests::picks), unfolding(crate::specs::Translation::translation_allowed))]
     pub fn allowed(self, geometry: Geometry) -> bool
         ensures { result ≡ translation_allowed geometry self }
     {
@@ -131,6 +139,7 @@ impl Translation {
     }
 
     // How many sectors CHS addresses reach.
+    #[tactic(auto, using(base::proofs::Tests::picks), unfolding(crate::specs::Translation::product_of))]
     pub fn product(self) -> u32
         ensures { result ≡ product_of self }
     {

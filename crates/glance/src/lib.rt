@@ -1,4 +1,6 @@
 // Actions that move nothing of the hot part but the place of the next word and the interrupt: the replay's inner loop holds these two apart.
+#![tactic(auto)]
+
 ghost use Rattle.std.specs.Prelude.{◌≡◌};
 ghost use Rattle.face.specs.Reads.{line_of};
 ghost use Rattle.glance.specs.Places.{place_of, run_placed_at, block_placed_at, placed_at, with_interrupt, hot_at};
@@ -7,7 +9,7 @@ ghost use Rattle.glance.specs.Glances.{hands_out, takes_in, read_glance, write_g
 use face::{Action, Hot, PasswordBlock, Run, Transfer};
 
 // The place of the next word and the interrupt after the action, and its value; or more of the device is needed.
-#[derive(Drop)]
+#[derive(Clone, Copy)]
 pub enum Glance {
     Shows(u8, bool, u16),
     Beyond,
@@ -42,6 +44,7 @@ fn block_at(mut block: PasswordBlock, word: u8) -> PasswordBlock
     block
 }
 
+#[tactic(auto, using(base::proofs::Tests::picks))]
 fn placed_at(transfer: Transfer, word: u8) -> Transfer
     ensures { result ≡ placed_at transfer word }
 {
@@ -63,6 +66,7 @@ fn with_interrupt(mut hot: Hot, raised: bool) -> Hot
 }
 
 // The hot part, with what was held apart put back.
+#[tactic(auto, using(base::proofs::Tests::picks))]
 pub fn hot_at(hot: Hot, word: u8, raised: bool) -> Hot
     ensures { result ≡ hot_at hot word raised }
 {
@@ -98,6 +102,7 @@ fn takes_in(transfer: Transfer) -> bool
     }
 }
 
+#[tactic(auto, using(base::proofs::Tests::picks), unfolding(crate::specs::Glances::read_glance))]
 fn look_read(transfer: Transfer, word: u8, raised: bool, buffer: &[u8; 512]) -> Glance
     ensures { result ≡ read_glance transfer word raised buffer.now }
 {
@@ -111,6 +116,7 @@ fn look_read(transfer: Transfer, word: u8, raised: bool, buffer: &[u8; 512]) -> 
     Glance::Beyond
 }
 
+#[tactic(auto, using(base::proofs::Tests::picks), unfolding(crate::specs::Glances::write_glance, crate::specs::Glances::write_glance_buffer))]
 fn look_write(transfer: Transfer, word: u8, raised: bool, buffer: &mut [u8; 512], w: u16) -> Glance
     ensures { (result ≡ write_glance transfer word raised) × (buffer.new ≡ write_glance_buffer transfer word buffer.old w) }
 {
@@ -124,6 +130,7 @@ fn look_write(transfer: Transfer, word: u8, raised: bool, buffer: &mut [u8; 512]
     Glance::Beyond
 }
 
+#[tactic(auto, using(base::proofs::Tests::picks), unfolding(crate::specs::Glances::status_glance))]
 fn look_status(hot: Hot, word: u8, raised: bool) -> Glance
     ensures { result ≡ status_glance hot word raised }
 {
@@ -133,6 +140,7 @@ fn look_status(hot: Hot, word: u8, raised: bool) -> Glance
     Glance::Shows(word, raised, hot.status() as u16)
 }
 
+#[tactic(auto, using(base::proofs::Tests::picks), unfolding(crate::specs::Glances::register_glance))]
 fn look_register(hot: Hot, word: u8, raised: bool, n: u8) -> Glance
     ensures { result ≡ register_glance hot word raised n }
 {
@@ -145,6 +153,7 @@ fn look_register(hot: Hot, word: u8, raised: bool, n: u8) -> Glance
     Glance::Beyond
 }
 
+#[tactic(auto, using(base::proofs::Tests::picks))]
 fn look_line(hot: Hot, raised: bool) -> u16
     ensures { result ≡ line_of (with_interrupt hot raised) }
 {
@@ -152,6 +161,7 @@ fn look_line(hot: Hot, raised: bool) -> u16
 }
 
 // The action on the hot part, whose next word's place and interrupt are these.
+#[tactic(auto, using(base::proofs::Tests::picks), unfolding(crate::specs::Glances::glance_of, crate::specs::Glances::glance_buffer))]
 pub fn look(hot: Hot, word: u8, raised: bool, buffer: &mut [u8; 512], action: Action) -> Glance
     ensures { (result ≡ glance_of hot word raised buffer.old action) × (buffer.new ≡ glance_buffer hot word buffer.old action) }
 {

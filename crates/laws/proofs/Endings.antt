@@ -195,6 +195,7 @@ unfolding AllTaken
 ends_within f x m [] b t = omega arith
 ends_within f x m (w ∷ ws) b t =
     let k = act_fewer f x m w b t.0 in
-    let h : length ws ≤ words_left (act_of f x m (action_of w)).acted.face.hot.transfer = ends_within _ _ _ ws k.bytes t.1 in
+    let h : length ws ≤ words_left (act_of f x m (action_of w)).acted.face.hot.transfer =
+    ends_within (act_of f x m (action_of w)).acted.face (act_of f x m (action_of w)).acted.secrets (act_of f x m (action_of w)).sectors ws k.bytes t.1 in
     let l : words_left (act_of f x m (action_of w)).acted.face.hot.transfer < words_left f.hot.transfer = k.less in
     omega arith

@@ -39,7 +39,7 @@ use Rattle.face.specs.declared.Action.{Action}
 use Rattle.face.specs.declared.Action.TheVariants.{ReadRegister, WriteRegister, ReadWord, WriteWord, HardwareReset, PowerOn, Line}
 use Rattle.resets.specs.Control.{srst_of, control_of}
 use Rattle.resets.specs.Resets.{drop_purpose, drop_as, dropped_of, powered_on_face}
-use Rattle.transfers.specs.Sectors.{located, after_of, not_found_of}
+use Rattle.transfers.specs.Sectors.{run_at, ended_well, located, after_of, not_found_of}
 use Rattle.transfers.specs.Words.{read_buffer_word, word_in, write_buffer_word}
 use Rattle.transfers.specs.declared.Told.{Told}
 use Rattle.reading.specs.Sectors.{read_as, read_at, read_sectors_of, verify_as, verify_last, verify_from, verify_sectors_of}
@@ -75,9 +75,9 @@ read_at_lasts {m} {P} c f r p =
 
 verify_lasts : {m : List ℕ} {P : Face → Type 0} → Lasts m P → (f : Face) (n : ℕ) (at : AddressRegisters) → P f → P (verify_from f n at)
 unfolding verify_from verify_last not_found_of
-verify_lasts {m} {P} c f zero at p = address_each P (verify_as f _ _) (located f.settled at) (λ x e. c.hot f _ p) (c.hot f _ p)
+verify_lasts {m} {P} c f zero at p = address_each P (verify_as f (run_at at 0) (ended_well f at)) (located f.settled at) (λ x e. c.hot f _ p) (c.hot f _ p)
 verify_lasts {m} {P} c f (suc k) at p =
-    address_each P (verify_as f _ _) (located f.settled at) (λ x e. verify_lasts c f k (successor_of f.settled.translation at) p) (c.hot f _ p)
+    address_each P (verify_as f (run_at at (suc k)) (verify_from f k (successor_of f.settled.translation at))) (located f.settled at) (λ x e. verify_lasts c f k (successor_of f.settled.translation at) p) (c.hot f _ p)
 
 -- ---- commands
 

@@ -413,4 +413,4 @@ reached d (c ∷ cs) = reached (step_of d c.memory c.action).outcome.device cs
 pub reached_shaped : (d : Device) (cs : List Call) → shaped_of d ≡ true → shaped_of (reached d cs) ≡ true
 unfolding reached
 reached_shaped d [] s = s
-reached_shaped d (c ∷ cs) s = reached_shaped _ cs (step_shaped d c.memory c.action s)
+reached_shaped d (c ∷ cs) s = reached_shaped (step_of d c.memory c.action).outcome.device cs (step_shaped d c.memory c.action s)

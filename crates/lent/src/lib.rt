@@ -1,4 +1,6 @@
 // What calls over a device as lent bytes have in common: the reply, how they are let in; and setup.
+#![tactic(auto)]
+
 ghost use Rattle.std.specs.Prelude.{◌≡◌};
 ghost use Rattle.face.specs.Reads.{number_of};
 ghost use Rattle.lent.specs.Lent.{host_reply, admission_of};
@@ -9,7 +11,7 @@ use face::Answer;
 
 // The answer's number, and its value.
 #[repr(C)]
-#[derive(Drop)]
+#[derive(Clone, Copy)]
 pub struct Reply {
     pub answer: u32,
     pub value: u32,
@@ -24,6 +26,7 @@ pub fn answered(number: u8, value: u32) -> Reply
     }
 }
 
+#[tactic(auto, using(base::proofs::Tests::picks))]
 pub fn refused(answer: Answer) -> Reply
     ensures { result ≡ host_reply (number_of answer) 0 }
 {
@@ -31,6 +34,7 @@ pub fn refused(answer: Answer) -> Reply
 }
 
 // Whether a call goes on: Done, or why it is turned away.
+#[tactic(auto, using(base::proofs::Tests::picks), unfolding(crate::specs::Lent::admission_of))]
 pub fn admission(state: &[u8], sectors: &[u8]) -> Answer
     ensures { result ≡ admission_of state.now sectors.now }
 {
@@ -59,6 +63,7 @@ fn refuse_setup(state: &mut [u8], buffer: &mut [u8; 512]) -> Reply
 }
 
 // Setup: state and buffer become a disk's just powered on, or all zero where it is refused.
+#[tactic(auto, using(base::proofs::Tests::picks))]
 pub fn setup(
     state: &mut [u8],
     buffer: &mut [u8; 512],

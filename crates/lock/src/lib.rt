@@ -1,10 +1,12 @@
 // The lock: its three states, the security settings beside it, the two stored passwords.
+#![tactic(auto)]
+
 ghost use Rattle.std.specs.Prelude.{◌≡◌};
 ghost use Rattle.lock.specs.Lock.{is_locked, is_frozen, is_open, starting_lock, with_lock, frozen_of, prepared_of, unprepared_of, powered_on, exhausted_of, cannot_erase, security_fits};
 ghost use Rattle.lock.specs.Passwords.{zero_password, fresh_secrets};
 
 // The three lock states.
-#[derive(Drop)]
+#[derive(Clone, Copy)]
 pub enum Lock {
     Open,
     Locked,
@@ -12,7 +14,7 @@ pub enum Lock {
 }
 
 // The security settings: the lock, the enabled mark, level Maximum (else High), the attempts left, the preparation by F3h.
-#[derive(Drop)]
+#[derive(Clone, Copy)]
 pub struct Security {
     pub lock: Lock,
     pub enabled: bool,
@@ -22,14 +24,14 @@ pub struct Security {
 }
 
 // The two stored passwords.
-#[derive(Drop)]
+#[derive(Clone, Copy)]
 pub struct Secrets {
     pub user: [u8; 32],
     pub master: [u8; 32],
 }
 
 // What a password block is for: F1h, F2h, F4h, F6h.
-#[derive(Drop)]
+#[derive(Clone, Copy)]
 pub enum Purpose {
     Set,
     Unlock,
@@ -69,6 +71,7 @@ impl Lock {
     }
 }
 
+#[tactic(auto, using(base::proofs::Tests::picks), unfolding(crate::specs::Lock::starting_lock))]
 fn starting_lock(enabled: bool) -> Lock
     ensures { result ≡ starting_lock enabled }
 {
@@ -116,6 +119,7 @@ impl Security {
     }
 
     // No attempts left.
+    #[tactic(auto, using(base::proofs::Tests::picks), unfolding(crate::specs::Lock::exhausted_of))]
     pub fn exhausted(self) -> bool
         ensures { result ≡ exhausted_of self }
     {
@@ -123,6 +127,7 @@ impl Security {
     }
 
     // What bars ERASE UNIT: no preparation, or no attempts left.
+    #[tactic(auto, using(base::proofs::Tests::picks), unfolding(crate::specs::Lock::cannot_erase))]
     pub fn cannot_erase(self) -> bool
         ensures { result ≡ cannot_erase self }
     {
@@ -133,6 +138,7 @@ impl Security {
     }
 
     // The clauses of answer 2 on attempts and lock.
+    #[tactic(auto, using(base::proofs::Tests::picks), unfolding(crate::specs::Lock::security_fits))]
     pub fn fits(self) -> bool
         ensures { result ≡ security_fits self }
     {
@@ -147,6 +153,7 @@ impl Security {
     }
 
     // Power-on and hardware reset.
+    #[tactic(auto, using(base::proofs::Tests::picks))]
     pub fn power_on(mut self) -> Self
         ensures { result ≡ powered_on self }
     {
@@ -157,6 +164,7 @@ impl Security {
 }
 
 // The user password of a disk without security.
+#[tactic(auto, using(base::proofs::Tests::picks), unfolding(crate::specs::Passwords::zero_password))]
 pub fn no_password() -> [u8; 32]
     ensures { result ≡ zero_password }
 {
@@ -165,6 +173,7 @@ pub fn no_password() -> [u8; 32]
 
 impl Secrets {
     // The passwords of a new disk.
+    #[tactic(auto, using(base::proofs::Tests::picks))]
     pub fn fresh(master: [u8; 32]) -> Secrets
         ensures { result ≡ fresh_secrets master }
     {

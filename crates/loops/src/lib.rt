@@ -1,4 +1,6 @@
 // The replay's inner loops: over the records that the hot part and the buffer settle.
+#![tactic(auto)]
+
 ghost use Rattle.std.specs.Prelude.{◌≡◌, ◌+◌, ◌≤◌, length};
 ghost use Rattle.std.proofs.lemmas.List.Edits.{sets};
 ghost use Rattle.loops.specs.Ways.{stand_at, Stands, settled_reply, way_at, swift_of, Onward};
@@ -8,6 +10,7 @@ use glance::Glance;
 use records::Found;
 
 // The reply to a record that the fast path settled.
+#[tactic(auto, using(base::proofs::Tests::picks))]
 fn answer(out: &mut [u8], put: usize, seen: Seen)
     requires { put + 5 ≤ length out.old }
     ensures { out.new ≡ sets out.old put (settled_reply seen) }
@@ -19,7 +22,7 @@ fn answer(out: &mut [u8], put: usize, seen: Seen)
 }
 
 // Where a loop over the hot part stands: the next record's place, its reply's, and how many replies fit behind that one.
-#[derive(Drop)]
+#[derive(Clone, Copy)]
 pub struct Stand {
     pub hot: Hot,
     pub at: usize,
@@ -34,6 +37,7 @@ pub fn standing(hot: Hot, at: usize, put: usize, left: usize) -> Stand
 }
 
 // Replays records that need a glance only, of which the loop holds the next word's place and the interrupt apart.
+#[tactic(auto, using(base::proofs::Tests::picks))]
 fn glide(from: Stand, buffer: &mut [u8; 512], rec: &[u8], out: &mut [u8]) -> Stand
     requires { Stands rec.now out.old from }
     ensures { Onward rec.now (way_at from buffer.old out.old) (way_at result buffer.new out.new) }
@@ -66,6 +70,7 @@ fn glide(from: Stand, buffer: &mut [u8; 512], rec: &[u8], out: &mut [u8]) -> Sta
 }
 
 // Replays the records that the hot part and the buffer settle, up to the first other one.
+#[tactic(auto, using(base::proofs::Tests::picks), unfolding(crate::specs::Ways::swift_as))]
 pub fn swift(from: Stand, buffer: &mut [u8; 512], rec: &[u8], out: &mut [u8]) -> Stand
     requires { Stands rec.now out.old from }
     ensures { way_at result buffer.new out.new ≡ swift_of from.left rec.now (way_at from buffer.old out.old) }

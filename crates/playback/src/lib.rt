@@ -1,4 +1,6 @@
 // The definition of the reply, the disk that it starts from, and where a replay stands.
+#![tactic(auto)]
+
 ghost use Rattle.std.specs.Prelude.{◌≡◌};
 ghost use Rattle.playback.specs.Replay.{spaces, replay_device, is_over, cut_stage};
 
@@ -6,7 +8,7 @@ use device::Device;
 use settled::Identity;
 
 // Where a replay stands: before its version byte, among its records, or at its end.
-#[derive(Drop)]
+#[derive(Clone, Copy)]
 pub enum Stage {
     Opening,
     Replaying,
@@ -35,6 +37,7 @@ impl Stage {
     }
 }
 
+#[tactic(auto, using(base::proofs::Tests::picks), unfolding(crate::specs::Replay::spaces))]
 fn spaces() -> Identity
     ensures { result ≡ spaces }
 {
@@ -49,6 +52,7 @@ fn spaces() -> Identity
 }
 
 // The replay's disk, just powered on.
+#[tactic(auto, using(base::proofs::Tests::picks))]
 pub fn replay_device() -> Device
     ensures { result ≡ replay_device }
 {

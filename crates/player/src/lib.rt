@@ -1,4 +1,6 @@
 // The loop over a recording's records: each is one action of the device.
+#![tactic(auto)]
+
 ghost use Rattle.std.specs.Prelude.{◌≡◌, ◌+◌, ◌≤◌, length};
 ghost use Rattle.device.specs.Host.{Ready};
 ghost use Rattle.loops.specs.Ways.{stand_at, Stands};
@@ -12,7 +14,7 @@ use playback::Stage;
 use records::Found;
 
 // How far a part of a recording came.
-#[derive(Drop)]
+#[derive(Clone, Copy)]
 pub struct Came {
     pub device: Device,
     pub stage: Stage,
@@ -21,7 +23,7 @@ pub struct Came {
 }
 
 // Where the loop stands: the device, the next record's place, its reply's, and how many replies fit behind that one.
-#[derive(Drop)]
+#[derive(Clone, Copy)]
 struct Course {
     pub device: Device,
     pub at: usize,
@@ -30,6 +32,7 @@ struct Course {
 }
 
 // The device, of which the inner loops held the hot part and the buffer apart.
+#[tactic(auto, using(base::proofs::Tests::picks))]
 fn whole(mut device: Device, hot: Hot, buffer: [u8; 512]) -> Device
     ensures { result ≡ whole_of device hot buffer }
 {
@@ -50,6 +53,7 @@ pub fn halt(device: Device, stage: Stage, taken: usize, made: usize) -> Came
 }
 
 // The bytes go on with no whole record: a fault, where no more of them come.
+#[tactic(auto, using(base::proofs::Tests::picks), unfolding(crate::specs::Parts::cut_reply, crate::specs::Parts::cut_made))]
 fn cut(device: Device, last: bool, out: &mut [u8], at: usize, put: usize) -> Came
     requires { put + 3 ≤ length out.old }
     ensures { (result ≡ came device (cut_stage last) at (cut_made last put)) × (out.new ≡ cut_reply last out.old put) }
@@ -62,6 +66,7 @@ fn cut(device: Device, last: bool, out: &mut [u8], at: usize, put: usize) -> Cam
 }
 
 // The records from there on that the hot part and the buffer settle.
+#[tactic(auto, using(base::proofs::Tests::picks))]
 fn stretch(device: Device, at: usize, put: usize, left: usize, rec: &[u8], out: &mut [u8]) -> Course
     requires { Stands rec.now out.old (stand_at device.face.hot at put left) }
     ensures { (result ≡ course_of device (stretch_way device at put left rec.now out.old)) × (out.new ≡ (stretch_way device at put left rec.now out.old).out) }
@@ -79,6 +84,7 @@ fn stretch(device: Device, at: usize, put: usize, left: usize, rec: &[u8], out: 
 }
 
 // Replays whole records from where it came on, until the reply is full or the bytes are used up.
+#[tactic(auto, using(base::proofs::Tests::picks))]
 pub fn play(from: Came, sectors: &mut [u8], rec: &[u8], last: bool, out: &mut [u8]) -> Came
     requires { Ready from.device sectors.old × ((from.taken ≤ length rec.now) × (from.made ≤ length out.old)) }
     ensures { Gives (part_of last from.device sectors.old rec.now from.taken out.old from.made) result sectors.new out.old out.new }

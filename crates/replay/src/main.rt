@@ -1,9 +1,11 @@
 // Replays the recording on standard input to standard output, through fixed buffers.
+#![tactic(auto)]
+
 use libc::{EINTR, STDIN_FILENO, STDOUT_FILENO};
 use recording::Stream;
 
 // After a read: how many bytes the window holds, or the recording's end, or an error.
-#[derive(Drop)]
+#[derive(Clone, Copy)]
 enum Input {
     Held(usize),
     End,
@@ -11,7 +13,7 @@ enum Input {
 }
 
 // A replay between two reads, how many bytes the window holds, and whether to go on.
-#[derive(Drop)]
+#[derive(Clone, Copy)]
 struct After {
     stream: Stream,
     held: usize,
@@ -49,6 +51,7 @@ fn put(reply: &[u8]) -> bool {
 }
 
 // One turn over the bytes held, and its reply written.
+#[tactic(auto, using(base::proofs::Tests::picks))]
 fn turn(
     stream: Stream,
     sectors: &mut [u8],
@@ -91,6 +94,7 @@ fn round(
 }
 
 // Rounds until the replay is over; the count only bounds the loop, and no recording uses it up.
+#[tactic(auto, using(base::proofs::Tests::picks))]
 fn run(sectors: &mut [u8], window: &mut [u8], out: &mut [u8]) {
     let mut stream = Stream::start();
     let mut held = 0;

@@ -1,4 +1,6 @@
 // What commands seldom touch: geometry, translation, identity and security settings; their limits, and what resets leave of them.
+#![tactic(auto)]
+
 ghost use Rattle.std.specs.Prelude.{◌≡◌};
 ghost use Rattle.settled.specs.Identity.{plain, printable, identity_fits};
 ghost use Rattle.settled.specs.Settled.{with_translation, with_security, settled_fits, settled_unprepared, settled_powered_on, settled_reset};
@@ -8,14 +10,14 @@ use geometry::{Geometry, Translation};
 use lock::{Lock, Security};
 
 // What IDENTIFY tells of the disk by name.
-#[derive(Drop)]
+#[derive(Clone, Copy)]
 pub struct Identity {
     pub serial: [u8; 20],
     pub firmware: [u8; 8],
     pub model: [u8; 40],
 }
 
-#[derive(Drop)]
+#[derive(Clone, Copy)]
 pub struct Settled {
     pub geometry: Geometry,
     pub translation: Translation,
@@ -30,6 +32,7 @@ fn plain(byte: u8) -> bool
 }
 
 // Whether each byte is from 20h to 7Eh. All are looked at, which lets several be looked at at once.
+#[tactic(auto, using(base::proofs::Tests::picks))]
 fn printable(text: &[u8]) -> bool
     ensures { result ≡ printable text.now }
 {
@@ -44,6 +47,7 @@ fn printable(text: &[u8]) -> bool
 
 impl Identity {
     // Whether serial, firmware and model are printable.
+    #[tactic(auto, using(base::proofs::Tests::picks), unfolding(crate::specs::Identity::identity_fits))]
     pub fn fits(self) -> bool
         ensures { result ≡ identity_fits self }
     {
@@ -76,6 +80,7 @@ impl Settled {
     }
 
     // The clauses of answer 2 on geometry, identity, translation, attempts and lock.
+    #[tactic(auto, using(base::proofs::Tests::picks), unfolding(crate::specs::Settled::settled_fits))]
     pub fn fits(self) -> bool
         ensures { result ≡ settled_fits self }
     {
@@ -96,6 +101,7 @@ impl Settled {
     }
 
     // The preparation ended.
+    #[tactic(auto, using(base::proofs::Tests::picks))]
     pub fn unprepare(self) -> Self
         ensures { result ≡ settled_unprepared self }
     {
@@ -104,6 +110,7 @@ impl Settled {
     }
 
     // Power-on and hardware reset.
+    #[tactic(auto, using(base::proofs::Tests::picks))]
     pub fn power_on(self) -> Self
         ensures { result ≡ settled_powered_on self }
     {
@@ -114,6 +121,7 @@ impl Settled {
     }
 
     // Software reset.
+    #[tactic(auto, using(base::proofs::Tests::picks))]
     pub fn reset(self) -> Self
         ensures { result ≡ settled_reset self }
     {
@@ -122,6 +130,7 @@ impl Settled {
     }
 }
 
+#[tactic(auto, using(base::proofs::Tests::picks), unfolding(crate::specs::Setup::zero_identity))]
 fn zero_identity() -> Identity
     ensures { result ≡ zero_identity }
 {
@@ -149,6 +158,7 @@ fn zero_security() -> Security
 }
 
 // The settled part of a new disk, before its power-on.
+#[tactic(auto, using(base::proofs::Tests::picks))]
 pub fn fresh(geometry: Geometry, identity: Identity) -> Settled
     ensures { result ≡ fresh_settled geometry identity }
 {
@@ -163,6 +173,7 @@ pub fn fresh(geometry: Geometry, identity: Identity) -> Settled
 }
 
 // The settled part of a record all zero.
+#[tactic(auto, using(base::proofs::Tests::picks))]
 pub fn zero_settled() -> Settled
     ensures { result ≡ zero_settled }
 {

@@ -1,4 +1,6 @@
 // The clauses of a disk's shape, whichever device of its cable is selected: nothing here looks at DEV.
+#![tactic(auto)]
+
 ghost use Rattle.std.specs.Prelude.{◌≡◌};
 ghost use Rattle.shape.specs.Shape.{run_fits, password_fits, transfer_fits, held_fits, parts_fit};
 
@@ -8,6 +10,7 @@ use lock::{Purpose, Security};
 use settled::Settled;
 
 // A sector transfer: not while locked, and its current sector's address names a sector.
+#[tactic(auto, using(base::proofs::Tests::picks), unfolding(crate::specs::Shape::run_fits))]
 fn run_fits(settled: Settled, run: Run) -> bool
     ensures { result ≡ run_fits settled run }
 {
@@ -25,6 +28,7 @@ fn run_fits(settled: Settled, run: Run) -> bool
 
 // A password transfer: not while frozen; SET and DISABLE not while locked; UNLOCK and ERASE UNIT not without attempts; ERASE UNIT
 // not without preparation.
+#[tactic(auto, using(base::proofs::Tests::picks), unfolding(crate::specs::Shape::password_fits))]
 fn password_fits(security: Security, purpose: Purpose) -> bool
     ensures { result ≡ password_fits security purpose }
 {
@@ -40,6 +44,7 @@ fn password_fits(security: Security, purpose: Purpose) -> bool
     }
 }
 
+#[tactic(auto, using(base::proofs::Tests::picks))]
 fn transfer_fits(settled: Settled, transfer: Transfer) -> bool
     ensures { result ≡ transfer_fits settled transfer }
 {
@@ -58,6 +63,7 @@ fn transfer_fits(settled: Settled, transfer: Transfer) -> bool
 }
 
 // No transfer while reset is held.
+#[tactic(auto, using(base::proofs::Tests::picks), unfolding(crate::specs::Shape::held_fits))]
 fn held_fits(hot: Hot) -> bool
     ensures { result ≡ held_fits hot }
 {
@@ -68,6 +74,7 @@ fn held_fits(hot: Hot) -> bool
 }
 
 // The clauses of answer 2, but for DEV.
+#[tactic(auto, using(base::proofs::Tests::picks), unfolding(crate::specs::Shape::parts_fit))]
 pub fn fits(settled: Settled, hot: Hot) -> bool
     ensures { result ≡ parts_fit settled hot }
 {

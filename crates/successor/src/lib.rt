@@ -1,4 +1,6 @@
 // The registers of the next address.
+#![tactic(auto)]
+
 ghost use Rattle.std.specs.Prelude.{◌≡◌};
 ghost use Rattle.address.specs.Registers.{with_lba};
 ghost use Rattle.successor.specs.Successor.{lba_successor, chs_successor, successor_of};
@@ -17,12 +19,14 @@ fn with_lba(mut registers: AddressRegisters, n: u32) -> AddressRegisters
     registers
 }
 
+#[tactic(auto, using(base::proofs::Tests::picks), unfolding(address::specs::Registers::lba_of, address::specs::Registers::head_of, crate::specs::Successor::lba_successor))]
 fn lba_successor(registers: AddressRegisters) -> AddressRegisters
     ensures { result ≡ lba_successor registers }
 {
     with_lba(registers, registers.lba() + 1)
 }
 
+#[tactic(auto, using(base::proofs::Tests::picks), unfolding(address::specs::Registers::head_of, crate::specs::Successor::chs_successor))]
 fn chs_successor(mut registers: AddressRegisters, t: Translation) -> AddressRegisters
     ensures { result ≡ chs_successor t registers }
 {
@@ -40,6 +44,7 @@ fn chs_successor(mut registers: AddressRegisters, t: Translation) -> AddressRegi
 }
 
 // The registers of the next address, good or bad.
+#[tactic(auto, using(base::proofs::Tests::picks), unfolding(crate::specs::Successor::successor_of))]
 pub fn successor(registers: AddressRegisters, t: Translation) -> AddressRegisters
     ensures { result ≡ successor_of t registers }
 {

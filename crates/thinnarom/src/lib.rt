@@ -1,4 +1,6 @@
 // The symbols of the static library, as include/thinnarom.h declares them.
+#![tactic(auto)]
+
 ghost use Rattle.std.specs.Prelude.{◌/◌, length};
 ghost use Rattle.lent.specs.Lent.{lent_step, GivesBack};
 ghost use Rattle.lent.specs.Setup.{lent_setup, Sets};
@@ -96,6 +98,7 @@ pub extern "C" fn thinnarom_write_words(
 }
 
 #[unsafe(no_mangle)]
+#[tactic(auto, using(base::proofs::Tests::picks))]
 pub extern "C" fn thinnarom_hardware_reset(
     state: &mut [u8],
     buffer: &mut [u8; 512],
@@ -107,6 +110,7 @@ pub extern "C" fn thinnarom_hardware_reset(
 }
 
 #[unsafe(no_mangle)]
+#[tactic(auto, using(base::proofs::Tests::picks))]
 pub extern "C" fn thinnarom_power_on(
     state: &mut [u8],
     buffer: &mut [u8; 512],

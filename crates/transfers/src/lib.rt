@@ -1,4 +1,6 @@
 // What reading and writing share: the sector that an address names, runs of sectors, how commands end, and the data words of the buffer.
+#![tactic(auto)]
+
 ghost use Rattle.std.specs.Prelude.{◌≡◌, ◌<◌};
 ghost use Rattle.transfers.specs.Sectors.{located, after_of, first_run, next_run, abort_face, finish_face, missed_of};
 ghost use Rattle.transfers.specs.Words.{told, no_transfer, read_buffer_word, buffer_word, word_in, write_buffer_word};
@@ -9,7 +11,7 @@ use geometry::Translation;
 use settled::Settled;
 
 // What an action on the face shows.
-#[derive(Drop)]
+#[derive(Clone, Copy)]
 pub struct Told {
     pub face: Face,
     pub answer: Answer,
@@ -36,6 +38,7 @@ pub fn located(settled: Settled, at: AddressRegisters) -> Address
 }
 
 // How many sectors come after the first: Sector Count 0 is 256.
+#[tactic(auto, using(base::proofs::Tests::picks), unfolding(crate::specs::Sectors::after_of))]
 pub fn after_first(count: u8) -> u8
     ensures { result ≡ after_of count }
 {
@@ -43,6 +46,7 @@ pub fn after_first(count: u8) -> u8
 }
 
 // The run of a command's first sector.
+#[tactic(auto, using(base::proofs::Tests::picks))]
 pub fn first_run(regs: Registers) -> Run
     ensures { result ≡ first_run regs }
 {
@@ -55,6 +59,7 @@ pub fn first_run(regs: Registers) -> Run
 }
 
 // The next sector's run.
+#[tactic(auto, using(base::proofs::Tests::picks))]
 pub fn next_run(run: Run, translation: Translation) -> Run
     requires { 0 < run.after }
     ensures { result ≡ next_run run translation }
@@ -69,6 +74,7 @@ pub fn next_run(run: Run, translation: Translation) -> Run
 }
 
 // A command aborts.
+#[tactic(auto, using(base::proofs::Tests::picks))]
 pub fn abort(face: Face) -> Face
     ensures { result ≡ abort_face face }
 {
@@ -77,6 +83,7 @@ pub fn abort(face: Face) -> Face
 }
 
 // A command ends well.
+#[tactic(auto, using(base::proofs::Tests::picks))]
 pub fn finish(face: Face) -> Face
     ensures { result ≡ finish_face face }
 {
@@ -85,6 +92,7 @@ pub fn finish(face: Face) -> Face
 }
 
 // A bad address ends a sector command: the address, and the sectors left including it, 256 shown as 00h.
+#[tactic(auto, using(base::proofs::Tests::picks))]
 pub fn missed(hot: Hot, run: Run) -> Hot
     ensures { result ≡ missed_of hot run }
 {
@@ -101,6 +109,7 @@ pub fn no_transfer(face: Face) -> Told
 }
 
 // A data word of READ BUFFER or IDENTIFY has been read.
+#[tactic(auto, using(base::proofs::Tests::picks), unfolding(crate::specs::Words::read_buffer_word))]
 fn read_buffer_word(face: Face, word: u8) -> Face
     ensures { result ≡ read_buffer_word face word }
 {
@@ -112,6 +121,7 @@ fn read_buffer_word(face: Face, word: u8) -> Face
 }
 
 // A data word of READ BUFFER or IDENTIFY is read.
+#[tactic(auto, using(base::proofs::Tests::picks))]
 pub fn buffer_word(face: Face, n: u8) -> Told
     ensures { result ≡ buffer_word face n }
 {
@@ -121,6 +131,7 @@ pub fn buffer_word(face: Face, n: u8) -> Told
 }
 
 // A word arrives in the buffer.
+#[tactic(auto, using(base::proofs::Tests::picks))]
 pub fn word_in(face: Face, n: u8, w: u16) -> Face
     ensures { result ≡ word_in face n w }
 {
@@ -130,6 +141,7 @@ pub fn word_in(face: Face, n: u8, w: u16) -> Face
 }
 
 // A data word of WRITE BUFFER is written.
+#[tactic(auto, using(base::proofs::Tests::picks), unfolding(crate::specs::Words::write_buffer_word))]
 pub fn write_buffer_word(face: Face, n: u8, w: u16) -> Face
     ensures { result ≡ write_buffer_word face n w }
 {

@@ -1,4 +1,6 @@
 // Data words in bulk: as many words as a transfer passes, a block at a time.
+#![tactic(auto)]
+
 ghost use Rattle.std.specs.Prelude.{◌≡◌, ◌≤◌, min};
 ghost use Rattle.face.specs.Face.{face_with};
 ghost use Rattle.transfers.specs.Sectors.{Memory};
@@ -12,7 +14,7 @@ use face::{Hot, Run, Transfer};
 use settled::Settled;
 
 // How far a bulk came: the hot part, and how many words have passed.
-#[derive(Drop)]
+#[derive(Clone, Copy)]
 pub struct Passed {
     pub hot: Hot,
     pub words: usize,
@@ -28,6 +30,7 @@ fn least(a: usize, b: usize) -> usize
 }
 
 // Bytes of one slice, from `at` on, become those of another, from `put` on.
+#[tactic(auto, using(base::proofs::Tests::picks))]
 fn copy(from: &[u8], at: usize, to: &mut [u8], put: usize, size: usize)
     requires { Reach from.now at to.old put size }
     ensures { Moved from.now at to.old put size to.new }
@@ -47,6 +50,7 @@ fn placed(hot: Hot, word: u8) -> Hot
 }
 
 // The last word of a block has been read.
+#[tactic(auto, using(base::proofs::Tests::picks), unfolding(reading::specs::Words::read_run_of, reading::specs::Words::read_next_of, transfers::specs::Words::read_buffer_word))]
 fn read_last(hot: Hot, settled: Settled, buffer: &mut [u8; 512], sectors: &[u8]) -> Hot
     requires { Memory settled.geometry settled.translation sectors.now }
     ensures { face_with result settled buffer.new ≡ (read_word_as (face_with hot settled buffer.old) sectors.now (placed_at hot.transfer 255)).face }
@@ -63,6 +67,7 @@ fn read_last(hot: Hot, settled: Settled, buffer: &mut [u8; 512], sectors: &[u8])
 }
 
 // Words up to that place have been read.
+#[tactic(auto, using(base::proofs::Tests::picks), unfolding(crate::specs::Blocks::read_up_to))]
 fn read_to(hot: Hot, place: usize, settled: Settled, buffer: &mut [u8; 512], sectors: &[u8]) -> Hot
     requires { Memory settled.geometry settled.translation sectors.now }
     ensures { face_with result settled buffer.new ≡ read_up_to (face_with hot settled buffer.old) sectors.now place }
@@ -74,6 +79,7 @@ fn read_to(hot: Hot, place: usize, settled: Settled, buffer: &mut [u8; 512], sec
 }
 
 // Words are read, as many as `out` has room for, up to the first that is turned away.
+#[tactic(auto, using(base::proofs::Tests::picks))]
 pub fn read_words(
     hot: Hot,
     settled: Settled,
@@ -117,6 +123,7 @@ fn takes_to(transfer: Transfer) -> usize
 }
 
 // Words up to that place have arrived.
+#[tactic(auto, using(base::proofs::Tests::picks), unfolding(crate::specs::Blocks::written_up_to, crate::specs::Blocks::stored_up_to))]
 fn write_to(hot: Hot, place: usize, settled: Settled, buffer: &[u8; 512], sectors: &mut [u8]) -> Hot
     requires { Memory settled.geometry settled.translation sectors.old }
     ensures { (face_with result settled buffer.now ≡ written_up_to (face_with hot settled buffer.now) place) × (sectors.new ≡ stored_up_to (face_with hot settled buffer.now) sectors.old place) }
@@ -136,6 +143,7 @@ fn write_to(hot: Hot, place: usize, settled: Settled, buffer: &[u8; 512], sector
 }
 
 // Words are written, up to the first that is turned away or is a password block's last.
+#[tactic(auto, using(base::proofs::Tests::picks))]
 pub fn write_words(
     hot: Hot,
     settled: Settled,

@@ -1,0 +1,8 @@
+-- A named sector lies inside the memory.
+use Rattle.transfers.proofs.Reached.{memory_room}
+use Rattle.transfers.specs.Sectors.{located}
+use mathlib.Core.Path.{sym, ◌∙◌}
+use Rattle.reading.proofs.read_at.Goals as goal
+
+pub load-block-requires : goal.load-block-requires
+load-block-requires c = memory_room c.requires _ _ (sym c.located.ensures ∙ c.in-Names.is)
