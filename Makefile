@@ -1,11 +1,10 @@
 # make replay    proves and builds the replay program, then shows a recorded guest beside the replies (RECORDING=path)
-# make test      the gate: proves every crate from nothing, tries every must-fail edit, then the other tests
+# make test      the gate: proves every crate, tries every must-fail edit, then the other tests
 # make soak      compares the proved and the second program over many sessions (SESSIONS=n, SEED=n)
 # make bench     times both programs and single actions from C, counts instructions and writes the tables of docs/SPEED.md
-# make proofs    writes the proof files of CRATE anew from its recipes (CRATE=address)
-# make fmt       takes unused imports out and lays sources and proofs out as the gate wants them
+# make fmt       takes unused imports out and lays sources and proofs out as rt ci wants them
 
-.PHONY: replay test soak bench proofs fmt
+.PHONY: replay test soak bench fmt
 
 # Payment's sector, and what the next guest sees of it before and after the password.
 RECORDING := recordings/leak-read-buffer-while-locked.rec
@@ -32,9 +31,6 @@ bench:
 	@$(PROGRAMS) && build_replay && build_others && build_library && build_costs && \
 	{ tools/bench.py $$replay $$second $$differential; missed=$$?; tools/cost.py $$hosts/cost $$second_cost && exit $$missed; }
 
-proofs:
-	@tools/prove.py $(CRATE)
-
 fmt:
 	@tools/tidy.py
-	@rt fmt
+	@for crate in crates/*/; do (cd $$crate && rt fmt) || exit; done

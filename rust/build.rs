@@ -18,7 +18,7 @@ fn main() {
 /// in vain.
 fn library() -> Result<PathBuf, String> {
     let Some(named) = env::var_os(VARIABLE).map(PathBuf::from) else {
-        return Ok(package().join("../target/staticlib/libthinnarom.a"));
+        return Ok(package().join("../crates/thinnarom/out/libthinnarom.a"));
     };
     match named.is_absolute() {
         true => Ok(named),
@@ -40,7 +40,7 @@ fn link(library: &Path) -> Result<(), String> {
         PathBuf::from(env::var_os("OUT_DIR").expect("cargo names a folder for what is built"));
     std::fs::copy(library, folder.join("libthinnarom.a")).map_err(|error| {
         format!(
-            "no library at {} ({error}): make it with `rt staticlib thinnarom` at the repository's root, or name another in {VARIABLE}",
+            "no library at {} ({error}): make it with `rt lib` in crates/thinnarom of the repository, or name another in {VARIABLE}",
             library.display()
         )
     })?;

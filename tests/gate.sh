@@ -23,10 +23,14 @@ part() { # NAME COMMAND..
     parts+=$(printf '%-22s %3d min %02d s   %s' "$name" $((took / 60)) $((took % 60)) "$word")$'\n'
 }
 
-# Everything that rt ci prints but its verdict, which is kept for the end.
+# Everything that rt ci prints but its verdict, which is kept for the end. An edit that never reached the prover (rt calls it bad) fails
+# nothing there, and fails here.
 prove() {
     rt ci 2>&1 | tee "$log" | grep -vE '^[0-9]+ passed, [0-9]+ failed$'
-    return "${PIPESTATUS[0]}"
+    [ "${PIPESTATUS[0]}" -eq 0 ] || return 1
+    ! grep -qE '^rt: ok.*, [1-9][0-9]* bad' "$log" || { echo 'edits are bad: see their lines above'; return 1; }
+    # The program that it proved and ran is what the parts below try.
+    [ -x crates/replay/out/replay ] || build_replay
 }
 
 # The Rust packages, built for the parts after this one, and their own tests, in the profile that builds quickest.

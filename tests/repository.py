@@ -20,19 +20,12 @@ from tree import read  # noqa: E402
 
 LONGEST_FUNCTION = 40  # lines
 MOST_FUNCTIONS = 40  # a crate stays below
-LARGEST_SHARE = 15  # one crate's check, in 100 of all checks' time
 
 
 def crates_are_listed(_):
     """crates.txt and crates/ name the same crates."""
     there = {os.path.basename(path.rstrip('/')) for path in glob.glob('crates/*/')}
     return [f'{name} stands in one of crates.txt and crates/ only' for name in there ^ set(tree.crates())]
-
-
-def layout_is_kept(_):
-    """Sources and proofs are laid out by rt fmt."""
-    done = subprocess.run(['rt', 'fmt', '--check'], capture_output=True, text=True)
-    return [] if done.returncode == 0 else [(done.stdout + done.stderr).strip()]
 
 
 def functions(path):
@@ -101,65 +94,52 @@ def no_folder_of_one_machine_is_named(_):
     return complaints
 
 
-def crates_check_quickly(log):
-    """No crate has grown to a large share of the whole check. Shares, unlike seconds, are the same on every machine."""
-    times = {name: int(seconds) for name, seconds in re.findall(r'^rt: (\w+) proved \((\d+) s\)', log, re.M)}
-    missing = [f'no time for {name}' for name in tree.crates() if name not in times]
-    most = sum(times.values()) * LARGEST_SHARE / 100
-    return missing + [f'{name} took {seconds} s of {sum(times.values())}' for name, seconds in times.items() if most < seconds]
-
-
-def proofs_have_recipes(_):
-    """Each proof file of a function has a recipe, whose argument is its first line."""
-    complaints = []
-    for crate in tree.crates():
-        base = f'crates/{crate}/proofs'
-        recipes = tree.recipes(crate) if os.path.exists(f'{base}/recipes.txt') else {}
-        files = {os.path.relpath(os.path.dirname(path), base) for path in glob.glob(f'{base}/**/Proof.antt', recursive=True)}
-        complaints += [f'{crate}: {name} has a recipe or a proof, not both' for name in files ^ set(recipes)]
-        for name in files & set(recipes):
-            if read(f'{base}/{name}/Proof.antt').splitlines()[0] != f'-- {recipes[name].get("why")}':
-                complaints.append(f'{crate}: {name} does not open with its argument')
-    return complaints
-
-
 def imports_are_used(_):
     """No file brings a name in that it does not use (tools/tidy.py takes such names out)."""
     return [f'{path}: {name}' for path in tree.sources() for name in tidy.unused_names(path)]
 
 
-# What the check says where a proof file does not fit the code's shape, which shows nothing of the facts.
-UNFIT = ['has no `Need-', 'expected type `tie.Need-', 'expected type `Need-', 'is not in scope', 'has no field', 'error: `Inv-', 'error: `μ-']
+def all_edits():
+    return sorted(glob.glob('crates/*/must-fail/*.edit'))
 
 
 def edits_find_their_text(_):
-    """Each text that a must-fail edit replaces stands once in its file."""
+    """Each text that a must-fail edit replaces stands once in its file, as the pairs before it left that."""
     complaints = []
-    for edit in sorted(glob.glob('crates/*/must-fail/*.edit')):
-        file = None
+    for edit in all_edits():
+        texts, file, old = {}, None, None
         for line in read(edit).splitlines():
-            if line.startswith('file: '):
-                file = os.path.join(os.path.dirname(os.path.dirname(edit)), line[len('file: '):])
-            elif line.startswith('old: ') and read(file).count(line[len('old: '):]) != 1:
-                complaints.append(f'{edit}: not once in {file}: {line[len("old: "):]}')
+            word, _, text = line.partition(': ')
+            if word == 'file':
+                file = os.path.join(os.path.dirname(os.path.dirname(edit)), text)
+                texts.setdefault(file, read(file))
+            elif word == 'old':
+                old = text
+                complaints += [] if texts[file].count(old) == 1 else [f'{edit}: not once in {file}: {old}']
+            elif word == 'new':
+                texts[file] = texts[file].replace(old, text)
     return complaints
 
 
-def edits_reach_a_proof(_):
-    """Each must-fail edit names its slip, and was refused inside a proof or a law that fits the edited code's shape."""
+def edits_name_their_slip(_):
+    """Each must-fail edit begins with a line that says what slip it is."""
+    return [f'{edit} does not say what slip it is' for edit in all_edits() if not re.match(r'# \S', read(edit))]
+
+
+# What rt ci says of an edit that was refused for a name that is not there, which shows nothing of the facts.
+UNFIT = ['only because a proof file names', 'that can be named', 'is not in scope', 'has no field', 'has no `']
+
+
+def edits_reach_a_proof(log):
+    """Each must-fail edit was tried, and refused for a fact that fails and not for a name."""
     complaints = []
-    for edit in sorted(glob.glob('crates/*/must-fail/*.edit')):
-        crate, label = edit.split('/')[1], os.path.basename(edit)[:-5]
-        log = f'target/must-fail/{crate}/{label}/.log'
-        if not os.path.exists(log):
-            complaints.append(f'{crate}/{label} was not tried')
-            continue
-        errors = re.findall(r'^\S+: error: .*$|^fn .*`search` does not close .*$', read(log), re.M)
-        unfit = [e for e in errors if any(words in e for words in UNFIT)]
-        if unfit or all('was not admitted' in e for e in errors):
-            complaints.append(f'{crate}/{label}: ' + (unfit or errors or ['no error'])[0][:200])
-        if not re.match(r'# \S', read(edit)):
-            complaints.append(f'{crate}/{label} does not say what slip it is')
+    for edit in all_edits():
+        name = f'{edit.split("/")[1]}/{os.path.basename(edit)}'
+        said = re.search(rf'^rt: must-fail {re.escape(name)}: (.*)$', log, re.M)
+        if not said:
+            complaints.append(f'{name} was not tried')
+        elif not said[1].startswith('refused') or any(words in said[1] for words in UNFIT):
+            complaints.append(f'{name}: {said[1][:200]}')
     return complaints
 
 
@@ -212,22 +192,22 @@ def laws_that_are_named_exist(_):
 def room_claims_are_theorems(_):
     """docs/ROOM.md pairs each claim with a theorem of just that type, each leak with its refutation, and names nothing that is not there."""
     text, proofs = read('docs/ROOM.md'), '\n'.join(read(path) for path in glob.glob('crates/room/proofs/*.antt') + glob.glob('crates/runs/proofs/*.antt'))
-    claims = re.findall(r'^\| .* \| `(\w+)` \| `([\w-]+)` \|$', text, re.M)
-    leaks = re.findall(r'^\| .* \| `(\w+)` \| `(\w+)` \| `([\w-]+)`', text, re.M)
+    claims = re.findall(r'^\| .* \| `(\w+)` \| `(\w+)` \|$', text, re.M)
+    leaks = re.findall(r'^\| .* \| `(\w+)` \| `(\w+)` \| `(\w+)`', text, re.M)
     types = [f'pub {proof} : {claim}' for claim, proof in claims] + [f'pub {proof} : {claim} {wrong} → ⊥' for wrong, claim, proof in leaks]
-    complaints = [f'{line} is no theorem' for line in types if not re.search(f'^{re.escape(line)}( stepOf)?$', proofs, re.M)]
+    complaints = [f'{line} is no theorem' for line in types if not re.search(f'^{re.escape(line)}( step_of)?$', proofs, re.M)]
     stated = set(re.findall(r'^abbrev pub (\w+) : Rules → Type 0$', read('crates/room/specs/Claims.antt'), re.M)) | {'TwelveNumbers'}
     wrong = set(re.findall(r'^unfoldable pub (\w+) : Rules$', read('crates/room/proofs/WrongRules.antt'), re.M))
-    named = set(re.findall(r'`([\w:-]+)`', text))
+    named = set(re.findall(r'`([\w:]+)`', text))
     complaints += [f'{name} has no row' for name in stated - {claim for claim, _ in claims}] + [f'{name} is not named' for name in wrong - named]
     there = {name for path in glob.glob('crates/*/*/*.antt') for name in tree.public_names(path)} | {name for name, *_ in all_functions()} | set(tree.crates())
-    return complaints + [f'{name} is not there' for name in named - there - {'-run'}]
+    return complaints + [f'{name} is not there' for name in named - there - {'_run'}]
 
 
-CHECKS = [crates_are_listed, layout_is_kept, functions_are_short, crates_are_small, no_folder_of_one_machine_is_named, proofs_have_recipes,
-          imports_are_used, edits_find_their_text, promises_name_every_call, slips_have_edits, rules_name_every_definition,
+CHECKS = [crates_are_listed, functions_are_short, crates_are_small, no_folder_of_one_machine_is_named, imports_are_used,
+          edits_find_their_text, edits_name_their_slip, promises_name_every_call, slips_have_edits, rules_name_every_definition,
           names_mean_one_thing, laws_that_are_named_exist, room_claims_are_theorems]
-CHECKS_OF_A_RUN = [crates_check_quickly, edits_reach_a_proof]
+CHECKS_OF_A_RUN = [edits_reach_a_proof]
 
 
 def main():

@@ -1,6 +1,6 @@
 # The programs: where they stand and how they are built. For sh, read in at the repository's root.
 
-# rt has target/ to itself and empties it.
+# rt builds each crate in the crate's own out/. What cargo builds stands apart.
 export CARGO_TARGET_DIR=build/cargo
 
 # Rattle builds for x86-64. On another processor an emulator runs what it built, and tools/emulated has the replay program and the
@@ -17,29 +17,30 @@ x86_64) emulated='' to_run='' to_link='' ;;
 esac
 
 # REPLAY names another program to try in the proved one's place, which is then not built.
-replay=${REPLAY:-${emulated:-target/bin}/replay}
+replay=${REPLAY:-${emulated:-crates/replay/out}/replay}
 second=$CARGO_TARGET_DIR/release/second
 differential=$CARGO_TARGET_DIR/release/differential
 # THINNAROM_LIBRARY likewise names another library.
-library=${THINNAROM_LIBRARY:-target/staticlib/libthinnarom.a}
+library=${THINNAROM_LIBRARY:-crates/thinnarom/out/libthinnarom.a}
 # Hosts in C, by name.
 hosts=build/hosts
 second_cost=$CARGO_TARGET_DIR/release/examples/cost
 
-# Proves and builds the replay program, unless nothing has changed since.
+# Proves and builds the replay program, unless nothing has changed since. rt builds a program to run it, so it replays the crate's own
+# recording, and its reply is dropped.
 build_replay() {
     [ -z "${REPLAY:-}" ] || return 0
-    echo 'proving and building target/bin/replay (some minutes the first time)'
+    echo 'proving and building crates/replay/out/replay (some minutes the first time)'
     mkdir -p build
-    rt check replay >build/replay.log 2>&1 || { cat build/replay.log; return 1; }
+    (cd crates/replay && rt run <stdin >/dev/null) 2>build/replay.log || { cat build/replay.log; return 1; }
 }
 
 # Proves and builds the static library, unless nothing has changed since.
 build_library() {
     [ -z "${THINNAROM_LIBRARY:-}" ] || return 0
-    echo 'proving and building target/staticlib/libthinnarom.a (some minutes the first time)'
+    echo 'proving and building crates/thinnarom/out/libthinnarom.a (some minutes the first time)'
     mkdir -p build
-    rt staticlib thinnarom >build/library.log 2>&1 || { cat build/library.log; return 1; }
+    (cd crates/thinnarom && rt lib) >build/library.log 2>&1 || { cat build/library.log; return 1; }
 }
 
 # From here on cc, nm and cargo are those for the library's processor.

@@ -11,11 +11,12 @@ USE = r'^((?:ghost )?use .*\.\{)(.*)(\};?)$'
 
 
 def unused_names(path):
-    """Imported names that stand nowhere else in the file; an operator `_+_` is used as `+`."""
+    """Imported names that stand nowhere else in the file; an operator `◌+◌` is used as `+`, and a name may have a field behind a dot."""
     lines = re.sub(r'^ *(--|//).*$', '', read(path), flags=re.M).splitlines()
     used = {word for line in lines if not re.match(r'(ghost )?use ', line) for word in re.findall(r'[^\s(),;{}]+', line)}
+    used |= {word.split('.')[0] for word in used}
     names = [name.strip() for line in lines for m in re.finditer(USE, line) for name in m.group(2).split(',')]
-    return [name for name in names if name not in used and name.strip('_') not in used]
+    return [name for name in names if name not in used and not used.issuperset(part for part in name.split('◌') if part)]
 
 
 def without(names, text):

@@ -1,4 +1,4 @@
-"""What the scripts know of the repository's tree: its files, crates, definitions and recipes."""
+"""What the scripts know of the repository's tree: its files, crates and definitions."""
 import glob
 import re
 
@@ -16,7 +16,7 @@ def write(path, text):
 def crates():
     """The crates that crates.txt lists."""
     lines = (line.split('#')[0].strip() for line in read('crates.txt').splitlines())
-    return [line.split(':')[0].strip() for line in lines if line]
+    return [line.split(':')[0].split()[0] for line in lines if line]
 
 
 def sources():
@@ -28,20 +28,3 @@ def sources():
 def public_names(path):
     """What a file of specs/ or proofs/ declares for others."""
     return re.findall(r'^(?:abbrev |unfoldable )?pub (?:ruleset |record )?(?!mod )([^\s:={(]+)', read(path), re.M)
-
-
-def recipes(crate):
-    """{function: {need or pattern: answer}} of a crate's recipes.txt, in its order; tools/prove.py says what they are."""
-    found, function, key = {}, None, None
-    for line in read(f'crates/{crate}/proofs/recipes.txt').splitlines():
-        if not line.strip() or line.startswith('#'):
-            continue
-        if not line.startswith(' '):
-            function = line.strip()
-            found[function] = {}
-        elif line.startswith('      '):
-            found[function][key] += '\n' + line[2:].rstrip()
-        else:
-            key, answer = line.strip().split(None, 1)
-            found[function][key] = answer.strip()
-    return found

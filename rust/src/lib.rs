@@ -52,7 +52,7 @@
 //!
 //! # Building
 //!
-//! The build links `target/staticlib/libthinnarom.a` of the repository, or the library whose
+//! The build links `crates/thinnarom/out/libthinnarom.a` of the repository, or the library whose
 //! absolute path stands in the environment variable `THINNAROM_LIBRARY`.
 
 #![deny(missing_docs)]
