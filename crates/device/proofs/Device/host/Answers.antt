@@ -1,0 +1,8 @@
+-- The shape holds and the memory is as long as the capacity asks.
+use Rattle.device.proofs.Memories.{shaped_memory}
+use mathlib.Core.Bool.{true}
+use mathlib.Core.Path.{sym, ◌∙◌}
+use Rattle.device.proofs.Device.host.Goals as goal
+
+pub step-requires : goal.step-requires
+step-requires c = shaped_memory _ _ (sym c.shaped.ensures ∙ c.if-shaped.true) (rw (← c.capacity.ensures) c.if-sectors-capacity.true)

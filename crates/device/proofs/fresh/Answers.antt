@@ -1,0 +1,7 @@
+-- Its parts are the definition's, powered on.
+use Rattle.face.specs.Face.{with_settled}
+use Rattle.face.specs.Setup.{zero_face}
+use Rattle.device.proofs.fresh.Goals as goal
+
+pub returns : goal.returns
+returns c = simp (c.powered_on-face.ensures, c.with_settled.ensures, c.zero_face.ensures, c.fresh-settled.ensures, c.fresh-secrets.ensures)
