@@ -1,6 +1,4 @@
 -- Its parts are the definition's, powered on.
-use Rattle.face.specs.Face.{with_settled}
-use Rattle.face.specs.Setup.{zero_face}
 use Rattle.device.proofs.fresh.Goals as goal
 
 pub returns : goal.returns

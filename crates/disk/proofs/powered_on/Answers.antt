@@ -1,5 +1,4 @@
 -- Power-on leaves the same of whatever the hot part was.
-use Rattle.face.specs.Face.{with_buffer}
 use mathlib.Core.Path.{◌∙◌}
 use Rattle.disk.proofs.powered_on.Goals as goal
 

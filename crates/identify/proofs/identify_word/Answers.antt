@@ -1,9 +1,7 @@
 -- A text's words are as many as its range.
 use Rattle.base.proofs.Tests.{within_low}
-use Rattle.base.specs.Choice.{within}
 use Rattle.identify.proofs.Ranges.{text_room}
 use borrow.Author.Rules.{rules}
-use mathlib.Core.Bool.{true}
 use mathlib.Core.Path.{sym, ◌∙◌}
 use Rattle.identify.proofs.identify_word.Goals as goal
 

@@ -1,8 +1,7 @@
 -- As long as all sectors reached were good, the rest decides.
 use Rattle.reading.proofs.Verifying.{verifying_bad, verifying_done, verifying_more}
-use Rattle.reading.specs.Sectors.{verify_last, verify_sectors_of}
-use Rattle.transfers.specs.Sectors.{located, not_found_of}
-use mathlib.Core.Bool.{true}
+use Rattle.reading.specs.Sectors.{verify_sectors_of}
+use Rattle.transfers.specs.Sectors.{not_found_of}
 use mathlib.Core.Path.{sym, ◌∙◌}
 use native.Mathlib.Omega.{arith}
 use Rattle.reading.proofs.verify_sectors.Goals as goal

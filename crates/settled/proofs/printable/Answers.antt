@@ -1,6 +1,5 @@
 -- After each turn `all` says whether the bytes so far are printable; the rest decides with it.
 use Rattle.settled.proofs.Printing.{seen_done, seen_more}
-use Rattle.settled.specs.Identity.{plain}
 use native.Mathlib.Omega.{arith}
 use Rattle.settled.proofs.printable.Goals as goal
 

@@ -1,6 +1,5 @@
 -- A named sector lies inside the memory.
 use Rattle.transfers.proofs.Reached.{memory_room}
-use Rattle.transfers.specs.Sectors.{located}
 use mathlib.Core.Path.{sym, ◌∙◌}
 use Rattle.writing.proofs.write_last.Goals as goal
 

@@ -1,7 +1,5 @@
 -- The sector is 1 at least, so what 1 is taken from is.
 use Rattle.base.proofs.Tests.{within_low}
-use Rattle.base.specs.Choice.{within}
-use mathlib.Core.Bool.{true}
 use mathlib.Core.Path.{sym, ◌∙◌}
 use native.Mathlib.Omega.{arith}
 use Rattle.address.proofs.AddressRegisters.chs_address.Goals as goal

@@ -1,6 +1,5 @@
 -- The shape holds and the memory is as long as the capacity asks.
 use Rattle.device.proofs.Memories.{shaped_memory}
-use mathlib.Core.Bool.{true}
 use mathlib.Core.Path.{sym, ◌∙◌}
 use Rattle.device.proofs.Device.host.Goals as goal
 
