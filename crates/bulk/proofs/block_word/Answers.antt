@@ -1,0 +1,6 @@
+-- The device of these parts, the word, and its bytes.
+use Rattle.bulk.proofs.Writing.{last_taken}
+use Rattle.bulk.proofs.block_word.Goals as goal
+
+pub returns : goal.returns
+returns c = last_taken _ _ _ _ _ _ _ _ _ _ _ _ _ c.requires.1 c.password_at-user.ensures c.password_at-master.ensures c.password_word-left.ensures.0 c.password_word-left.ensures.1 c.put_device.ensures.0 c.put_device.ensures.1
