@@ -1,0 +1,31 @@
+-- What DEV hides, a word as a bulk of one, or hot and settled part; the fast path has settled the rest.
+use Rattle.laws.specs.Sessions.{given}
+use Rattle.single.proofs.Open.{line_settles, put_open, read_open}
+use Rattle.single.proofs.Parts.{ignored_gives, reset_gives}
+use mathlib.Core.Path.{refl}
+use native.Mathlib.Omega.{arith}
+use Rattle.single.proofs.slow.Goals as goal
+
+pub write_open-requires : goal.write_open-requires
+write_open-requires c = (c.requires.0, put_open _ _ _ _ (rw c.in-WriteRegister.is at c.requires.1))
+
+pub returns-in-ReadRegister : goal.returns-in-ReadRegister
+returns-in-ReadRegister c = rw c.in-ReadRegister.is (ignored_gives _ _ _ _ _ _ c.requires.0.formed (record { geometry = omega (arith, c.slice_known-1.given 18); translation = omega (arith, c.slice_known-1.given 22) }) refl (read_open _ _ _ (rw c.in-ReadRegister.is at c.requires.1)) c.hidden.ensures)
+
+pub returns-in-WriteRegister : goal.returns-in-WriteRegister
+returns-in-WriteRegister c = rw c.in-WriteRegister.is c.write_open.ensures
+
+pub returns-in-ReadWord : goal.returns-in-ReadWord
+returns-in-ReadWord c = rw c.in-ReadWord.is c.read_one.ensures
+
+pub returns-in-WriteWord : goal.returns-in-WriteWord
+returns-in-WriteWord c = rw c.in-WriteWord.is c.write_one.ensures
+
+pub returns-in-HardwareReset : goal.returns-in-HardwareReset
+returns-in-HardwareReset c = rw c.in-HardwareReset.is (reset_gives c.args.state.now c.args.buffer.now c.args.sectors.now _ _ _ (c.power_on.ensures _))
+
+pub returns-in-PowerOn : goal.returns-in-PowerOn
+returns-in-PowerOn c = rw c.in-PowerOn.is (c.power_on-in-PowerOn.ensures _)
+
+pub returns-in-Line : goal.returns-in-Line
+returns-in-Line c = absurd (line_settles _ _ (rw c.in-Line.is at c.requires.1))
