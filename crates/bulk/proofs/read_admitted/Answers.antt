@@ -2,7 +2,6 @@
 use Rattle.bulk.proofs.Few.{bytes_stored}
 use Rattle.bulk.proofs.Reading.{few_read, reads_gives}
 use Rattle.device.proofs.Memories.{shaped_memory}
-use Rattle.laws.specs.Sessions.{given}
 use Rattle.lent.proofs.Lending.{formed_long}
 use native.Mathlib.Omega.{arith}
 use Rattle.bulk.proofs.read_admitted.Goals as goal

@@ -1,7 +1,6 @@
 -- Let in, the words are read; turned away, everything is left.
 use Rattle.bulk.proofs.Reading.{reads_away}
 use Rattle.lent.proofs.Lending.{admitted, number_done, number_refuses}
-use mathlib.Core.Bool.{false, true}
 use mathlib.Core.Path.{sym, ◌∙◌}
 use Rattle.bulk.proofs.read_words.Goals as goal
 

@@ -2,12 +2,9 @@
 use Rattle.bulk.proofs.Few.{bytes_stored}
 use Rattle.bulk.proofs.Writing.{all_gives, done_gives, few_done, few_written, last_left, refused_gives, word_is}
 use Rattle.device.proofs.Memories.{shaped_memory}
-use Rattle.laws.proofs.Opens.{last_word}
-use Rattle.laws.specs.Sessions.{given}
 use Rattle.layout.specs.Stored.{secrets_stored}
 use Rattle.lent.proofs.Lending.{formed_long}
 use Rattle.words.proofs.Callers.{writes_stopped}
-use mathlib.Core.Bool.{false, true}
 use native.Mathlib.Omega.{arith}
 use Rattle.bulk.proofs.write_admitted.Goals as goal
 

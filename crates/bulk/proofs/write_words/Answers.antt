@@ -1,6 +1,5 @@
 -- Let in, the words are written; turned away, everything is left.
 use Rattle.lent.proofs.Lending.{admitted, number_done}
-use mathlib.Core.Bool.{true}
 use mathlib.Core.Path.{sym, ◌∙◌}
 use Rattle.bulk.proofs.write_words.Goals as goal
 

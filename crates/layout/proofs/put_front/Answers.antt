@@ -1,5 +1,5 @@
 -- Three pieces, one behind the other.
-use Rattle.layout.proofs.Puts.{hot_bytes_long, put_front, put_identity}
+use Rattle.layout.proofs.Puts.{hot_bytes_long, put_front}
 use Rattle.layout.specs.Bytes.{hot_bytes, identity_bytes, number_bytes}
 use mathlib.Core.Path.{refl}
 use Rattle.layout.proofs.put_front.Goals as goal

@@ -1,6 +1,5 @@
 -- A state that is formed is as long as a state is.
 use Rattle.lent.proofs.Lending.{formed_long}
-use mathlib.Core.Bool.{true}
 use mathlib.Core.Path.{sym, ◌∙◌}
 use Rattle.lent.proofs.admission.Goals as goal
 

@@ -1,6 +1,5 @@
 -- The lengths decide, then the device's own setup.
 use Rattle.lent.proofs.Settings.{setup_gives, setup_identity, setup_master, setup_state}
-use mathlib.Core.Bool.{false, true}
 use Rattle.lent.proofs.setup.Goals as goal
 
 pub returns-then-master-eq32 : goal.returns-then-master-eq32

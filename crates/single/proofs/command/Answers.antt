@@ -1,10 +1,7 @@
 -- Where DEV hides it, nothing; else the gate over the parts that the bytes hold.
 use Rattle.device.proofs.Memories.{shaped_memory}
-use Rattle.laws.specs.Sessions.{given}
-use Rattle.layout.proofs.Puts.{put_front}
 use Rattle.lent.proofs.Lending.{formed_long}
 use Rattle.single.proofs.Parts.{command_gives, ignored_gives}
-use mathlib.Core.Bool.{false, true}
 use mathlib.Core.Path.{sym, ◌∙◌}
 use native.Mathlib.Omega.{arith}
 use Rattle.single.proofs.command.Goals as goal

@@ -1,5 +1,4 @@
 -- Device Control over the parts that the bytes hold.
-use Rattle.layout.proofs.Puts.{put_front}
 use Rattle.lent.proofs.Lending.{formed_long}
 use Rattle.single.proofs.Parts.{control_gives}
 use Rattle.single.proofs.control.Goals as goal

@@ -1,7 +1,5 @@
 -- Let in, the call is the device's action; turned away, it leaves everything.
-use Rattle.laws.specs.Sessions.{given}
 use Rattle.lent.proofs.Lending.{admitted, away_gives, lent_ready, number_done, number_refuses}
-use mathlib.Core.Bool.{false, true}
 use mathlib.Core.Path.{sym, ◌∙◌}
 use native.Mathlib.Omega.{arith}
 use Rattle.single.proofs.host.Goals as goal

@@ -1,5 +1,4 @@
 -- Power-on over the parts that the bytes hold.
-use Rattle.layout.proofs.Puts.{put_front}
 use Rattle.layout.specs.Stored.{hot_stored}
 use Rattle.lent.proofs.Lending.{formed_long}
 use Rattle.single.proofs.Parts.{power_gives}

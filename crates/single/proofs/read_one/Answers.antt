@@ -1,6 +1,5 @@
 -- A word that passes is the value; one that does not is turned away.
 use Rattle.single.proofs.Words.{read_done, read_none}
-use mathlib.Core.Bool.{false, true}
 use mathlib.Core.Path.{refl}
 use Rattle.single.proofs.read_one.Goals as goal
 

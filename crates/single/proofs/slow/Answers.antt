@@ -1,5 +1,4 @@
 -- What DEV hides, a word as a bulk of one, or hot and settled part; the fast path has settled the rest.
-use Rattle.laws.specs.Sessions.{given}
 use Rattle.single.proofs.Open.{line_settles, put_open, read_open}
 use Rattle.single.proofs.Parts.{ignored_gives, reset_gives}
 use mathlib.Core.Path.{refl}

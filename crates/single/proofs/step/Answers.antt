@@ -1,6 +1,5 @@
 -- Where the fast path settles the action, it is the action; else it has left the buffer.
 use Rattle.fastpath.proofs.Slow.{quick_slow}
-use Rattle.laws.specs.Sessions.{given}
 use Rattle.lent.proofs.Lending.{formed_long}
 use Rattle.single.proofs.Quick.{settle_gives}
 use mathlib.Core.Path.{sym, ◌∙◌}

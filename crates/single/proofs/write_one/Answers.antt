@@ -1,6 +1,5 @@
 -- A word that passes is done; one that does not is turned away.
 use Rattle.single.proofs.Words.{word_bytes, write_done, write_none}
-use mathlib.Core.Bool.{false, true}
 use Rattle.single.proofs.write_one.Goals as goal
 
 pub returns-then-reply-eq0 : goal.returns-then-reply-eq0

@@ -1,7 +1,5 @@
 -- Of the registers that the fast path leaves open, 7 and 8 are known.
-use Rattle.laws.specs.Sessions.{given}
 use Rattle.single.proofs.Parts.{unknown_gives}
-use mathlib.Core.Bool.{false, true}
 use native.Mathlib.Omega.{arith}
 use Rattle.single.proofs.write_open.Goals as goal
 

@@ -1,6 +1,5 @@
 -- A Command is left open whatever the device is.
 use Rattle.single.proofs.Open.{command_open}
-use mathlib.Core.Bool.{true}
 use Rattle.single.proofs.write_register.Goals as goal
 
 pub rare-requires : goal.rare-requires

@@ -1,7 +1,6 @@
 -- After each turn one byte more is copied.
 use Prim.Native.Nat.{◌+◌}
 use Rattle.words.proofs.Moving.{moving_more}
-use mathlib.Core.Bool.{true}
 use Rattle.words.proofs.copy.Goals as goal
 
 pub loop-moved-preserved : goal.loop-moved-preserved

@@ -1,8 +1,6 @@
 -- Each turn hands out what single reads would, up to the block's end at the most; the loop ends where a word is turned away or no more are wanted.
-use Rattle.glance.specs.Glances.{hands_out}
 use Rattle.words.proofs.ReadLoop.{handing_done, handing_more, handing_none, handing_refused}
 use borrow.Author.Rules.{rules}
-use mathlib.Core.Bool.{false, true}
 use mathlib.Core.Path.{sym, ◌∙◌}
 use Rattle.words.proofs.read_words.Goals as goal
 

@@ -1,7 +1,6 @@
 -- Each turn takes in what single writes would, up to the block's end at the most; the loop ends where a word is not taken in here or none is left.
 use Rattle.words.proofs.WriteLoop.{taking_done, taking_more, taking_none, taking_refused}
 use borrow.Author.Rules.{rules}
-use mathlib.Core.Bool.{false}
 use Rattle.words.proofs.write_words.Goals as goal
 
 pub loop-words-init : goal.loop-words-init
