@@ -1,8 +1,16 @@
 // Replays the recording on standard input to standard output, through fixed buffers.
 #![tactic(auto)]
 
-use libc::{EINTR, STDIN_FILENO, STDOUT_FILENO};
 use recording::Stream;
+use std::io::{ErrorKind, Read, Stderr, Stdin, Stdout, Write};
+
+// The program's streams.
+#[derive(Clone, Copy)]
+struct Streams {
+    input: Stdin,
+    output: Stdout,
+    errors: Stderr,
+}
 
 // After a read: how many bytes the window holds, or the recording's end, or an error.
 #[derive(Clone, Copy)]
@@ -21,38 +29,41 @@ struct After {
 }
 
 // Reads once, behind the bytes that the window holds.
-fn fill(window: &mut [u8], held: usize) -> Input {
+fn fill(streams: Streams, window: &mut [u8], held: usize) -> Input {
     if window.len() <= held {
         return Input::Held(held);
     }
     let behind = &mut window[held..];
-    let got = libc::read(STDIN_FILENO, behind);
-    if got == 0 {
-        return Input::End;
-    }
-    if got < 0 {
-        if os::errno() == EINTR {
-            return Input::Held(held);
+    let mut input = streams.input;
+    match input.read(behind) {
+        Ok(0) => Input::End,
+        Ok(more) => Input::Held(held + more),
+        Err(error) => {
+            if error.kind() == ErrorKind::Interrupted {
+                return Input::Held(held);
+            }
+            let _ = eprintln!(streams.errors; "read: {error}");
+            Input::Failed
         }
-        os::fail(&[b'r', b'e', b'a', b'd']);
-        return Input::Failed;
     }
-    let more = io::count(got, behind);
-    Input::Held(held + more)
 }
 
 // Whether all of the reply is written.
-fn put(reply: &[u8]) -> bool {
-    let written = io::write_all(STDOUT_FILENO, reply);
-    if !written {
-        os::fail(&[b'w', b'r', b'i', b't', b'e']);
+fn put(streams: Streams, reply: &[u8]) -> bool {
+    let mut output = streams.output;
+    match output.write_all(reply) {
+        Ok(()) => true,
+        Err(error) => {
+            let _ = eprintln!(streams.errors; "write: {error}");
+            false
+        }
     }
-    written
 }
 
 // One turn over the bytes held, and its reply written.
 #[tactic(auto, using(base::proofs::Tests::picks))]
 fn turn(
+    streams: Streams,
     stream: Stream,
     sectors: &mut [u8],
     window: &mut [u8],
@@ -64,7 +75,7 @@ fn turn(
     let made = t.made;
     let next = t.stream;
     let stage = next.stage;
-    let written = put(&out[..made]);
+    let written = put(streams, &out[..made]);
     let over = stage.over();
     let on = written && !over && t.number == 0;
     After {
@@ -76,15 +87,16 @@ fn turn(
 
 // One read, and the turn over what it brought.
 fn round(
+    streams: Streams,
     stream: Stream,
     sectors: &mut [u8],
     window: &mut [u8],
     held: usize,
     out: &mut [u8],
 ) -> After {
-    match fill(window, held) {
-        Input::Held(now) => turn(stream, sectors, window, now, false, out),
-        Input::End => turn(stream, sectors, window, held, true, out),
+    match fill(streams, window, held) {
+        Input::Held(now) => turn(streams, stream, sectors, window, now, false, out),
+        Input::End => turn(streams, stream, sectors, window, held, true, out),
         Input::Failed => After {
             stream,
             held,
@@ -95,13 +107,13 @@ fn round(
 
 // Rounds until the replay is over; the count only bounds the loop, and no recording uses it up.
 #[tactic(auto, using(base::proofs::Tests::picks))]
-fn run(sectors: &mut [u8], window: &mut [u8], out: &mut [u8]) {
+fn run(streams: Streams, sectors: &mut [u8], window: &mut [u8], out: &mut [u8]) {
     let mut stream = Stream::start();
     let mut held = 0;
     let mut rounds = u64::MAX;
     while 0 < rounds {
         rounds -= 1;
-        let after = round(stream, sectors, window, held, out);
+        let after = round(streams, stream, sectors, window, held, out);
         stream = after.stream;
         held = after.held;
         if !after.on {
@@ -110,9 +122,14 @@ fn run(sectors: &mut [u8], window: &mut [u8], out: &mut [u8]) {
     }
 }
 
-fn main() {
+fn main(rt: HostRuntime) {
     let mut sectors = [0u8; 32768];
     let mut window = [0u8; 65536];
     let mut out = [0u8; 131072];
-    run(&mut sectors, &mut window, &mut out);
+    let streams = Streams {
+        input: rt.stdin(),
+        output: rt.stdout(),
+        errors: rt.stderr(),
+    };
+    run(streams, &mut sectors, &mut window, &mut out);
 }
