@@ -20,6 +20,7 @@ from tree import read  # noqa: E402
 
 LONGEST_FUNCTION = 40  # lines
 MOST_FUNCTIONS = 40  # a crate stays below
+LARGEST_SHARE = 15  # one crate's lines, in 100 of all crates' lines
 
 
 def crates_are_listed(_):
@@ -92,6 +93,22 @@ def no_folder_of_one_machine_is_named(_):
         with open(path, 'rb') as f:
             complaints += [f'{path}: {name.decode()}' for name in re.findall(rb'/(?:work|root|home|opt)/\w*', f.read())]
     return complaints
+
+
+def crates_check_quickly(_):
+    """No crate has grown to a large share of the whole check, whose time goes by the lines of sources, definitions and proofs."""
+    lines = {}
+    for path in tree.sources():
+        crate = path.split('/')[1]
+        lines[crate] = lines.get(crate, 0) + len(read(path).splitlines())
+    most = sum(lines.values()) * LARGEST_SHARE / 100
+    return [f'{crate} has {n} lines of {sum(lines.values())}' for crate, n in lines.items() if most < n]
+
+
+def proofs_open_with_their_argument(_):
+    """Each file of a function's proof says on its first line what the argument is."""
+    files = [path for path in glob.glob('crates/*/proofs/**/*.antt', recursive=True) if path.count('/') > 3]
+    return [path for path in sorted(files) if not re.match(r'-- \S', read(path))]
 
 
 def imports_are_used(_):
@@ -204,9 +221,9 @@ def room_claims_are_theorems(_):
     return complaints + [f'{name} is not there' for name in named - there - {'_run'}]
 
 
-CHECKS = [crates_are_listed, functions_are_short, crates_are_small, no_folder_of_one_machine_is_named, imports_are_used,
-          edits_find_their_text, edits_name_their_slip, promises_name_every_call, slips_have_edits, rules_name_every_definition,
-          names_mean_one_thing, laws_that_are_named_exist, room_claims_are_theorems]
+CHECKS = [crates_are_listed, functions_are_short, crates_are_small, crates_check_quickly, no_folder_of_one_machine_is_named,
+          proofs_open_with_their_argument, imports_are_used, edits_find_their_text, edits_name_their_slip, promises_name_every_call,
+          slips_have_edits, rules_name_every_definition, names_mean_one_thing, laws_that_are_named_exist, room_claims_are_theorems]
 CHECKS_OF_A_RUN = [edits_reach_a_proof]
 
 
