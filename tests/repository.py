@@ -143,12 +143,12 @@ def edits_name_their_slip(_):
     return [f'{edit} does not say what slip it is' for edit in all_edits() if not re.match(r'# \S', read(edit))]
 
 
-# What rt ci says of an edit that was refused for a name that is not there, which shows nothing of the facts.
-UNFIT = ['only because a proof file names', 'that can be named', 'is not in scope', 'has no field', 'has no `']
+# What rt ci says of an edit that was refused for a name that is not there or at a limit, which shows nothing of the facts.
+UNFIT = ['only because a proof file names', 'only by a limit', 'that can be named', 'is not in scope', 'has no field', 'has no `']
 
 
 def edits_reach_a_proof(log):
-    """Each must-fail edit was tried, and refused for a fact that fails and not for a name."""
+    """Each must-fail edit was tried, and refused for a fact that fails and not for a name or at a limit."""
     complaints = []
     for edit in all_edits():
         name = f'{edit.split("/")[1]}/{os.path.basename(edit)}'

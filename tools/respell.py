@@ -89,6 +89,8 @@ def respell_page(path, new):
 
 def main():
     new = renamings()
+    if not new:
+        raise SystemExit('respell.py: every name has that spelling')
     for name, paths in TURNED.items():
         for path in paths:
             write(path, re.sub(rf'(?<![\w-]){name}(?![\w-])', name + '_law', read(path)))

@@ -54,8 +54,8 @@ front_over b f lb lf =
     sets-eq f b 0 w ∙ ap (λ (k : ℕ). f ++ drop k b) e
 
 -- and the passwords behind them are the whole
-pub put_all : (b f x : List ℕ) → length b ≡ 163 → length f ≡ 99 → length x ≡ 64 → sets (sets b 0 f) 99 x ≡ f ++ x
-put_all b f x lb lf lx =
+pub put_all_law : (b f x : List ℕ) → length b ≡ 163 → length f ≡ 99 → length x ≡ 64 → sets (sets b 0 f) 99 x ≡ f ++ x
+put_all_law b f x lb lf lx =
     let at : 0 + length f ≡ 99 = omega (arith, lf) in
     let e = length-append f x in
     let w : 0 + length (f ++ x) ≤ length b = omega (arith, e, lb, lf, lx) in

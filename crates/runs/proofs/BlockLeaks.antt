@@ -1,6 +1,6 @@
--- The wrong rules that leave a password block in the buffer, or give attempts back, break the claims on blocks and on five mismatches; the runs are computed.
+-- The wrong rules that leave a password block in the buffer, or give attempts back, on runs that are computed, and what a block left tells of the claims on blocks.
 use Prim.Native.Nat.{ℕ}
-use mathlib.Core.Path.{◌≡◌, refl, ap, subst}
+use mathlib.Core.Path.{◌≡◌, refl, ap}
 use mathlib.Core.Bool.{false}
 use mathlib.Core.List.{List, [], ◌∷◌, ◌++◌}
 use native.Mathlib.Omega.{arith}
@@ -18,8 +18,8 @@ use Rattle.transfers.specs.Sectors.{abort_face}
 use Rattle.device.specs.Alone.{Step, device_of}
 use Rattle.device.specs.declared.Device.{Device}
 use Rattle.laws.specs.Sessions.{Session, given, session_of}
-use Rattle.room.specs.Blocks.{mismatches_from, never_restarts}
-use Rattle.room.specs.Claims.{security_in, Guarded, ShutOut, ForgetsBlocks, ShutAfterFive}
+use Rattle.room.specs.Blocks.{mismatches_from}
+use Rattle.room.specs.Claims.{security_in, Guarded, ShutOut, ForgetsBlocks}
 use Rattle.room.proofs.Running.{running_on_bytes}
 use Rattle.laws.specs.Sessions.{values_of}
 use Rattle.runs.proofs.OneSector.{disk, passwords, filled, block_of, but_the_last, unlocking, guarded}
@@ -70,7 +70,7 @@ abbrev wrong_once : List Action
 wrong_once = unlocking (block_of 0 0x0202 0x0202)
 
 -- five times
-abbrev five_wrong : List Action
+abbrev pub five_wrong : List Action
 five_wrong = wrong_once ++ (wrong_once ++ (wrong_once ++ (wrong_once ++ wrong_once)))
 
 -- the disk after them: the last one aborted, no attempt is left
@@ -86,21 +86,14 @@ unfolding running_on_bytes soft_reset_gives_attempts
 five_counted = refl
 
 -- SRST is set and cleared
-abbrev soft_reset : List Action
+abbrev pub soft_reset : List Action
 soft_reset = WriteRegister 8 4 ∷ WriteRegister 8 0 ∷ []
 
 -- then F2h takes a block again
-taken_again : ShutOut soft_reset_gives_attempts shut (filled 0) soft_reset → ⊥
+pub taken_again : ShutOut soft_reset_gives_attempts shut (filled 0) soft_reset → ⊥
 unfolding running_on_bytes soft_reset_gives_attempts
 taken_again s = false≢true (s.aborts refl refl).closed
 
-switched_on : Guarded soft_reset_gives_attempts disk (filled 0)
+pub switched_on : Guarded soft_reset_gives_attempts disk (filled 0)
 unfolding running_on_bytes soft_reset_gives_attempts
 switched_on = guarded soft_reset_gives_attempts false (passwords 1 7) (filled 0) refl refl
-
-pub soft_reset_gives_attempts_leaks : ShutAfterFive soft_reset_gives_attempts → ⊥
-unfolding never_restarts
-soft_reset_gives_attempts_leaks k =
-    taken_again
-    (subst (λ (s : Session). ShutOut soft_reset_gives_attempts s.device s.sectors soft_reset) five_wrong_law
-    (k disk (filled 0) five_wrong soft_reset switched_on.ready switched_on.started five_counted refl))

@@ -1,15 +1,14 @@
--- Each of the wrong rules breaks the claim that rules its leak out, on a run that the theorem gives; the runs are computed.
+-- Runs, which are computed, on which wrong rules tell apart two of demand 3's devices.
 use Prim.Native.Nat.{ℕ}
-use mathlib.Core.Path.{◌≡◌, refl, sym, ap, ◌∙◌}
+use mathlib.Core.Path.{◌≡◌, refl}
 use mathlib.Core.Bool.{true, false}
 use mathlib.Core.List.{List, [], ◌∷◌}
-use native.Mathlib.Omega.{arith}
 use Rattle.face.specs.declared.Action.{Action}
 use Rattle.face.specs.declared.Action.TheVariants.{WriteRegister, ReadWord}
 use Rattle.device.specs.declared.Device.{Device}
 use Rattle.laws.specs.Sessions.{Rules, session_of}
 use Rattle.room.specs.Blocks.{never_accepted}
-use Rattle.room.specs.Claims.{holding, Guarded, AlikeOutside, KeepsTheSecret}
+use Rattle.room.specs.Claims.{holding, Guarded, AlikeOutside}
 use Rattle.room.proofs.Running.{running_on_bytes}
 use Rattle.laws.specs.Sessions.{last_value}
 use Rattle.runs.proofs.OneSector.{disk, locked_at, passwords, filled, block_of, unlocking_then_status, opened, locked_ready, guarded, alike_at}
@@ -29,13 +28,6 @@ pub record TellsApart (r : Rules) (d e : Device) (m n : List ℕ) (l : List Acti
   pub second : Shows r e n l v
   pub alike : AlikeOutside d e
 
-not_kept : {r : Rules} {d e : Device} {m n : List ℕ} {l : List Action} {u v : ℕ} → TellsApart r d e m n l u v → (u ≡ v → ⊥) → KeepsTheSecret r → ⊥
-not_kept t apart k =
-    apart
-    (sym t.first.last
-    ∙ ap last_value (k _ _ _ _ _ t.first.guarded t.second.guarded t.alike t.first.never t.second.never).answers
-    ∙ t.second.last)
-
 -- a block that is right but for the 32nd byte opens one of them
 pub compares31_bytes_run : TellsApart compares31_bytes disk (locked_at false (passwords 2 7)) (filled 0) (filled 0)
     (unlocking_then_status (block_of 0 0x0101 0x0201)) 0x50 0x51
@@ -46,9 +38,6 @@ compares31_bytes_run =
       second = record { guarded = guarded compares31_bytes false (passwords 2 7) (filled 0) refl refl; never = refl; last = refl };
       alike = alike_at false (passwords 1 7) (passwords 2 7);
     }
-
-pub compares31_bytes_leaks : KeepsTheSecret compares31_bytes → ⊥
-compares31_bytes_leaks = not_kept compares31_bytes_run (λ e. omega arith)
 
 -- the right master password opens one of them at level Maximum
 pub takes_master_at_maximum_run : TellsApart takes_master_at_maximum (locked_at true (passwords 1 7)) (locked_at true (passwords 1 8)) (filled 0) (filled 0)
@@ -61,9 +50,6 @@ takes_master_at_maximum_run =
       alike = alike_at true (passwords 1 7) (passwords 1 8);
     }
 
-pub takes_master_at_maximum_leaks : KeepsTheSecret takes_master_at_maximum → ⊥
-takes_master_at_maximum_leaks = not_kept takes_master_at_maximum_run (λ e. omega arith)
-
 -- the first word of IDENTIFY
 pub identifies_a_sector_run : TellsApart identifies_a_sector disk disk (filled 1) (filled 2)
     (WriteRegister 7 0xEC ∷ ReadWord ∷ []) 1 2
@@ -74,9 +60,6 @@ identifies_a_sector_run =
       second = record { guarded = guarded identifies_a_sector false (passwords 1 7) (filled 2) refl refl; never = refl; last = refl };
       alike = alike_at false (passwords 1 7) (passwords 1 7);
     }
-
-pub identifies_a_sector_leaks : KeepsTheSecret identifies_a_sector → ⊥
-identifies_a_sector_leaks = not_kept identifies_a_sector_run (λ e. omega arith)
 
 -- payment, who has opened the disk, reads the sector: READ SECTOR(S) puts it into the buffer
 abbrev paid : List ℕ → Device
@@ -105,6 +88,3 @@ start_keeps_buffer_run =
       second = record { guarded = after_payment_law 2; never = refl; last = refl };
       alike = record { geometry = refl; identity = refl; level = refl };
     }
-
-pub start_keeps_buffer_leaks : KeepsTheSecret start_keeps_buffer → ⊥
-start_keeps_buffer_leaks = not_kept start_keeps_buffer_run (λ e. omega arith)

@@ -3,3 +3,4 @@ pub mod Witnesses
 pub mod Silence
 pub mod Leaks
 pub mod BlockLeaks
+pub mod BrokenClaims

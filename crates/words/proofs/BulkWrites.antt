@@ -102,10 +102,10 @@ takes_within (WritingBuffer n) p o l = refl
 takes_within (TakingPassword b) p o l = lt-ltb p 255 l
 
 -- a word that is not its block's last
-word_in : (h : Hot) (s : Settled) (b : List ℕ) (x : Secrets) (m : List ℕ) (p : ℕ) (raised : Bool) (w : ℕ) → takes_in h.transfer ≡ true → p < 255
+word_in_law : (h : Hot) (s : Settled) (b : List ℕ) (x : Secrets) (m : List ℕ) (p : ℕ) (raised : Bool) (w : ℕ) → takes_in h.transfer ≡ true → p < 255
     → here_of (device_with (hot_at h p raised) s b x) m (WriteWord w) ≡ word_done (device_with (hot_at h (p + 1) raised) s (word_put b p w) x) m 0
 unfolding glance_of write_glance glance_buffer write_glance_buffer
-word_in h s b x m p raised w o l =
+word_in_law h s b x m p raised w o l =
     let buffer : word_put b p w ≡ glance_buffer h p b (WriteWord w) = simp (o, lt-ltb p 255 l) in
     here_step (device_with (hot_at h p raised) s b x) m (WriteWord w) (takes_within h.transfer p o l)
     ∙ quick_settles (device_with (hot_at h p raised) s b x) m (WriteWord w) (word_put b p w) (seen (hot_at h (p + 1) raised) Done 0)
@@ -125,7 +125,7 @@ words_in_law h s x m raised o [] l b p g =
 words_in_law h s x m raised o (w ∷ ws) l b p g =
     let i : p + 1 + length ws ≡ p + suc (length ws) = omega arith in
     let c : 1 + length ws ≡ suc (length ws) = omega arith in
-    takes_first here_of w (ws ++ l) (device_with (hot_at h p raised) s b x) m _ _ _ (word_in h s b x m p raised w o (omega arith))
+    takes_first here_of w (ws ++ l) (device_with (hot_at h p raised) s b x) m _ _ _ (word_in_law h s b x m p raised w o (omega arith))
     ∙ ap (taken_behind 1) (words_in_law h s x m raised o ws l (word_put b p w) (p + 1) (omega arith))
     ∙ taken_behind_law 1 (length ws) (write_words_of here_of l (device_with (hot_at h (p + 1 + length ws) raised) s (put_all (word_put b p w) (p + 1) ws) x) m)
     ∙ ap (λ (n : ℕ). taken_behind n (write_words_of here_of l (device_with (hot_at h (p + 1 + length ws) raised) s (put_all (word_put b p w) (p + 1) ws) x) m)) c
