@@ -8,6 +8,8 @@ use borrow.Author.Tests.{eqb-true, eq-eqb, ne_eqb}
 use lib.Dec.{eqb}
 use lib.ListN.{length, get_or, drop}
 use lib.Seq.{sets, sets-eq}
+use mir.Syntax.{w8}
+use mir.Val.{Fits}
 use Rattle.base.proofs.Tests.{either_way, false≢true}
 use Rattle.geometry.specs.Geometry.{capacity_of}
 use Rattle.settled.specs.declared.Settled.{Settled}
@@ -16,6 +18,8 @@ use Rattle.face.specs.declared.Hot.{Hot}
 use Rattle.face.specs.declared.Action.{Action}
 use Rattle.face.specs.declared.Answer.{Answer}
 use Rattle.face.specs.declared.Answer.TheVariants.{Done, NoRegister, OutOfShape, WrongLength, NoTransfer, SetupRefused}
+use Rattle.transfers.specs.Sectors.{Memory}
+use Rattle.device.proofs.Memories.{shaped_memory}
 use Rattle.device.specs.Alone.{shown, alone_of}
 use Rattle.device.specs.Host.{parts_shaped, shaped_of, memory_length, step_of}
 use Rattle.laws.proofs.Steps.{ready_step}
@@ -33,6 +37,9 @@ formed_long b e = (formed_clauses b e).long
 pub record LowBytes (b : List ℕ) : Type 0 where
   pub geometry : get_or b 18 0 < 256
   pub translation : get_or b 22 0 < 256
+
+pub low_bytes : (b : List ℕ) → ((i : ℕ) → Fits w8 (get_or b i 0)) → LowBytes b
+low_bytes b fits = record { geometry = omega (arith, fits 18); translation = omega (arith, fits 22) }
 
 -- ---- how a call is let in
 
@@ -99,6 +106,17 @@ admitted b x m e =
     (λ l. absurd (false≢true (sym (ap is_refusal (rw (f, s, l) at e))))))
     (λ s. absurd (false≢true (sym (ap is_refusal (rw (f, s) at e))))))
     (λ f. absurd (false≢true (sym (ap is_refusal (rw f at e)))))
+
+-- what the code sees of that: the answer's number, 0 or another
+pub zero_admits : (b x m : List ℕ) (a : Answer) (n : ℕ) → a ≡ admission_of b m → n ≡ number_of a → n ≡ 0 → Admitted b x m
+zero_admits b x m a n ea en z = admitted b x m (sym ea ∙ number_done a (sym en ∙ z))
+
+pub other_refuses : (a : Answer) (n : ℕ) → n ≡ number_of a → (n ≡ 0 → ⊥) → is_refusal a ≡ true
+other_refuses a n en k = number_refuses a (λ e. k (en ∙ e))
+
+-- over the memory that is lent, the sectors that addresses name are there
+pub lent_memory : (b x m : List ℕ) (s : Settled) → Admitted b x m → s ≡ settled_stored b → Memory s.geometry s.translation m
+lent_memory b x m s k e = rw e (shaped_memory (device_stored b x) m k.ready.shaped k.ready.long)
 
 -- let in, the call is the device's action
 pub lent_ready : (b x m : List ℕ) (a : Action) → Admitted b x m → lent_step b x m a ≡ lent_of (alone_of (device_stored b x) m a)

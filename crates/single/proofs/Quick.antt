@@ -1,14 +1,16 @@
 -- What the fast path settles over lent bytes is the device's own action: the hot part goes back, the buffer stands where it is.
 use Prim.Native.Nat.{ℕ}
-use mathlib.Core.Path.{◌≡◌, refl, ◌∙◌}
+use mathlib.Core.Path.{◌≡◌, refl, sym, ◌∙◌}
 use mathlib.Core.List.{List}
 use lib.Seq.{sets}
 use Rattle.face.specs.Reads.{number_of, value_of}
 use Rattle.face.specs.declared.Hot.{Hot}
 use Rattle.face.specs.declared.Seen.{Seen}
 use Rattle.face.specs.declared.Action.{Action}
-use Rattle.face.specs.declared.Quick.TheVariants.{Settles}
+use Rattle.face.specs.declared.Quick.{Quick}
+use Rattle.face.specs.declared.Quick.TheVariants.{Settles, Slow}
 use Rattle.fastpath.specs.Dev.{quick_alone, quick_alone_buffer}
+use Rattle.fastpath.proofs.Slow.{quick_slow}
 use Rattle.device.specs.Alone.{alone_of}
 use Rattle.device.proofs.FastStep.{quick_settles}
 use Rattle.layout.specs.Stored.{hot_stored, device_stored}
@@ -26,3 +28,7 @@ settle_gives b x m a s h r b' x' k low eh q ex er eb =
     let x'' : x' ≡ quick_alone_buffer (hot_stored b) x a = rw eh at ex in
     rw (quick_settles (device_stored b x) m a x' s q' x'')
     (record { reply = er; state = eb ∙ hot_put b s.hot k.formed low; buffer = refl; sectors = refl })
+
+-- what it leaves open has left the buffer
+pub slow_keeps : (h : Hot) (x x' : List ℕ) (a : Action) (q : Quick) → q ≡ quick_alone h x a → x' ≡ quick_alone_buffer h x a → q ≡ Slow → x' ≡ x
+slow_keeps h x x' a q eq ex es = ex ∙ quick_slow h x a (sym eq ∙ es)

@@ -1,15 +1,15 @@
 -- What DEV hides, a word as a bulk of one, or hot and settled part; the fast path has settled the rest.
+use Rattle.lent.proofs.Lending.{low_bytes}
 use Rattle.single.proofs.Open.{line_settles, put_open, read_open}
 use Rattle.single.proofs.Parts.{ignored_gives, reset_gives}
 use mathlib.Core.Path.{refl}
-use native.Mathlib.Omega.{arith}
 use Rattle.single.proofs.slow.Goals as goal
 
 pub write_open-requires : goal.write_open-requires
 write_open-requires c = (c.requires.0, put_open _ _ _ _ (rw c.in-WriteRegister.is at c.requires.1))
 
 pub returns-in-ReadRegister : goal.returns-in-ReadRegister
-returns-in-ReadRegister c = rw c.in-ReadRegister.is (ignored_gives _ _ _ _ _ _ c.requires.0.formed (record { geometry = omega (arith, c.slice_known-1.given 18); translation = omega (arith, c.slice_known-1.given 22) }) refl (read_open _ _ _ (rw c.in-ReadRegister.is at c.requires.1)) c.hidden.ensures)
+returns-in-ReadRegister c = rw c.in-ReadRegister.is (ignored_gives _ _ _ _ _ _ c.requires.0.formed (low_bytes _ c.slice_known-1.given) refl (read_open _ _ _ (rw c.in-ReadRegister.is at c.requires.1)) c.hidden.ensures)
 
 pub returns-in-WriteRegister : goal.returns-in-WriteRegister
 returns-in-WriteRegister c = rw c.in-WriteRegister.is c.write_open.ensures
