@@ -11,6 +11,8 @@ import collections
 import glob
 import re
 
+from tree import read, write
+
 # Lemmas that would get a definition's name.
 APART = '''after-payment five-wrong glance-buffer identify-word judged-face max-capacity password-word quick-step read-up-to
 started-face taken-behind turned-away with-transfer word-refused words-from words-in written-up-to'''.split()
@@ -23,27 +25,17 @@ TURNED = {
 }
 # Names that the kit's script respelled in sources and proofs, and not in edits, recipes and pages.
 BY_THE_KIT = '''add-at add-left add-words address-below address-spec addressOf afterOf alike-at all-three as-one at-five behind-more below-each block-none blockOf
-both-true capacity-spec copied-more copied-none copy-more copy-spec counted-spec cut-spec digits-same either-way endedAs enum-told fill-spec filled-
-more filled-none finish-spec first-word freshOf from-last front-length gives-whole headOf held-spec held-stays hereOf high-byte highWord isOver keep-
-spec keeping-none kept-byte last-step last-stored last-taken last-turn last-word lengthOf lentOf lineOf load-spec look-spec low-byte lowWord mul-at
-mul-low new-spec nextOf no-kind no-run no-value no-words none-below numberOf of-length of-parts one-word only-one onward-then open-free openedOf
-others-keep over-nothing part-bytes partOf parts-same passed-then past-end placeOf placedAt put-all put-alone put-front put-last put-other put-same
-putAll read-answer read-done read-kept read-last-spec read-none read-one read-step reads-first reads-none reads-same rest-back run-fits run-spec runAt
-runOf same-false same-length same-refl same-spec same-step same-true seen-done seen-more seen-none set-spec shaped-of shut-none start-spec startOf
-stateOf step-keeps step-spec step-then stepOf store-kept store-length store-same store-spec stored-other stored-same storedAt sub-number takenOf
-takes-first takes-none turn-spec turnOf two-sized unlock-spec valueOf valuesOf wantAt way-as wholeOf withHead withRegs within-low word-bytes word-in
-word-of word-on word-read wordAt wordIn words-append words-more wordsIn wordsOf write-done writes-more'''.split()
+both-true capacity-spec copied-more copied-none copy-more copy-spec counted-spec cut-spec digits-same either-way endedAs enum-told fill-spec
+filled-more filled-none finish-spec first-word freshOf from-last front-length gives-whole headOf held-spec held-stays hereOf high-byte highWord isOver
+keep-spec keeping-none kept-byte last-step last-stored last-taken last-turn last-word lengthOf lentOf lineOf load-spec look-spec low-byte lowWord
+mul-at mul-low new-spec nextOf no-kind no-run no-value no-words none-below numberOf of-length of-parts one-word only-one onward-then open-free
+openedOf others-keep over-nothing part-bytes partOf parts-same passed-then past-end placeOf placedAt put-all put-alone put-front put-last put-other
+put-same putAll read-answer read-done read-kept read-last-spec read-none read-one read-step reads-first reads-none reads-same rest-back run-fits
+run-spec runAt runOf same-false same-length same-refl same-spec same-step same-true seen-done seen-more seen-none set-spec shaped-of shut-none
+start-spec startOf stateOf step-keeps step-spec step-then stepOf store-kept store-length store-same store-spec stored-other stored-same storedAt
+sub-number takenOf takes-first takes-none turn-spec turnOf two-sized unlock-spec valueOf valuesOf wantAt way-as wholeOf withHead withRegs within-low
+word-bytes word-in word-of word-on word-read wordAt wordIn words-append words-more wordsIn wordsOf write-done writes-more'''.split()
 WORD = r"[^\s(){}\[\];,.:`'\"|<>/=]+(?:'+(?=[\s).;,}]))?"
-
-
-def read(path):
-    with open(path, encoding='utf-8') as f:
-        return f.read()
-
-
-def write(path, text):
-    with open(path, 'w', encoding='utf-8') as f:
-        f.write(text)
 
 
 def snake(name):

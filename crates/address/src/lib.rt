@@ -31,7 +31,7 @@ pub enum Address {
 
 impl AddressRegisters {
     // Device/Head bit 6: LBA, else CHS.
-    #[tactic(auto, using(base::proofs::Tests::picks), unfolding(crate::specs::Registers::lba_selected))]
+    #[tactic(auto, unfolding(crate::specs::Registers::lba_selected))]
     pub fn lba_selected(self) -> bool
         ensures { result ≡ lba_selected self }
     {
@@ -39,7 +39,7 @@ impl AddressRegisters {
     }
 
     // The 28 bits of an LBA, Sector Number lowest, head nibble highest.
-    #[tactic(auto, using(base::proofs::Tests::picks), unfolding(crate::specs::Registers::lba_of, crate::specs::Registers::head_of))]
+    #[tactic(auto, unfolding(crate::specs::Registers::lba_of, crate::specs::Registers::head_of))]
     pub fn lba(self) -> u32
         ensures { result ≡ lba_of self }
     {
@@ -50,7 +50,7 @@ impl AddressRegisters {
     }
 
     // Cylinder Low and Cylinder High.
-    #[tactic(auto, using(base::proofs::Tests::picks), unfolding(crate::specs::Registers::cylinder_of))]
+    #[tactic(auto, unfolding(crate::specs::Registers::cylinder_of))]
     pub fn cylinder(self) -> u16
         ensures { result ≡ cylinder_of self }
     {
@@ -58,7 +58,7 @@ impl AddressRegisters {
     }
 
     // The head nibble.
-    #[tactic(auto, using(base::proofs::Tests::picks), unfolding(crate::specs::Registers::head_of))]
+    #[tactic(auto, unfolding(crate::specs::Registers::head_of))]
     pub fn head_number(self) -> u8
         ensures { result ≡ head_of self }
     {
@@ -82,7 +82,7 @@ impl AddressRegisters {
         self
     }
 
-    #[tactic(auto, using(base::proofs::Tests::picks), unfolding(crate::specs::Address::lba_address))]
+    #[tactic(auto, unfolding(crate::specs::Address::lba_address))]
     fn lba_address(self, capacity: u32) -> Address
         ensures { result ≡ lba_address capacity self }
     {
@@ -94,7 +94,7 @@ impl AddressRegisters {
         }
     }
 
-    #[tactic(auto, using(base::proofs::Tests::picks), unfolding(crate::specs::Address::chs_address, crate::specs::Address::chs_number))]
+    #[tactic(auto, unfolding(crate::specs::Address::chs_address, crate::specs::Address::chs_number))]
     fn chs_address(self, t: Translation) -> Address
         ensures { result ≡ chs_address t self }
     {
@@ -115,7 +115,7 @@ impl AddressRegisters {
     }
 
     // The sector that the registers name, in LBA below the geometry's capacity, in CHS by the translation in force.
-    #[tactic(auto, using(base::proofs::Tests::picks), unfolding(crate::specs::Address::address_of))]
+    #[tactic(auto, unfolding(crate::specs::Address::address_of))]
     pub fn address(self, g: Geometry, t: Translation) -> Address
         ensures { result ≡ address_of g t self }
     {

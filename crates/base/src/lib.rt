@@ -5,7 +5,7 @@ ghost use Rattle.std.specs.Prelude.{◌≡◌, ◌+◌, ◌*◌};
 ghost use Rattle.base.specs.Choice.{within};
 
 // Whether x is from low to high.
-#[tactic(auto, using(crate::proofs::Tests::picks), unfolding(crate::specs::Choice::within))]
+#[tactic(auto, unfolding(crate::specs::Choice::within))]
 pub fn within(low: u16, high: u16, x: u16) -> bool
     ensures { result ≡ within low high x }
 {

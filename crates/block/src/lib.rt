@@ -13,7 +13,7 @@ fn wide(byte: u8) -> u16
 }
 
 // Word n of a block, low byte first.
-#[tactic(auto, using(base::proofs::Tests::picks), unfolding(crate::specs::Words::word_at))]
+#[tactic(auto, unfolding(crate::specs::Words::word_at))]
 pub fn word_at(block: &[u8; 512], n: u8) -> u16
     ensures { result ≡ word_at block.now n }
 {
@@ -23,7 +23,7 @@ pub fn word_at(block: &[u8; 512], n: u8) -> u16
 }
 
 // Word n of a block becomes w.
-#[tactic(auto, using(base::proofs::Tests::picks), unfolding(crate::specs::Words::word_put))]
+#[tactic(auto, unfolding(crate::specs::Words::word_put))]
 pub fn put_word(block: &mut [u8; 512], n: u8, w: u16)
     ensures { block.new ≡ word_put block.old n w }
 {
@@ -34,7 +34,7 @@ pub fn put_word(block: &mut [u8; 512], n: u8, w: u16)
 }
 
 // A zeroed buffer.
-#[tactic(auto, using(base::proofs::Tests::picks), unfolding(crate::specs::Sectors::zero_block))]
+#[tactic(auto, unfolding(crate::specs::Sectors::zero_block))]
 pub fn zeros() -> [u8; 512]
     ensures { result ≡ zero_block }
 {
@@ -42,7 +42,7 @@ pub fn zeros() -> [u8; 512]
 }
 
 // Sector n of the memory.
-#[tactic(auto, using(base::proofs::Tests::picks), unfolding(crate::specs::Sectors::sector_at))]
+#[tactic(auto, unfolding(crate::specs::Sectors::sector_at))]
 pub fn load(sectors: &[u8], n: u32) -> [u8; 512]
     requires { 512 * n + 512 ≤ length sectors.now }
     ensures { result ≡ sector_at sectors.now n }
@@ -58,7 +58,7 @@ pub fn load(sectors: &[u8], n: u32) -> [u8; 512]
 }
 
 // Sector n of the memory becomes the block.
-#[tactic(auto, using(base::proofs::Tests::picks), unfolding(crate::specs::Sectors::stored_at))]
+#[tactic(auto, unfolding(crate::specs::Sectors::stored_at))]
 pub fn store(sectors: &mut [u8], n: u32, block: [u8; 512])
     requires { 512 * n + 512 ≤ length sectors.old }
     ensures { sectors.new ≡ stored_at sectors.old n block }
@@ -72,7 +72,7 @@ pub fn store(sectors: &mut [u8], n: u32, block: [u8; 512])
 }
 
 // Every byte of the memory becomes 0.
-#[tactic(auto, using(base::proofs::Tests::picks), unfolding(crate::specs::Sectors::zeroed))]
+#[tactic(auto, unfolding(crate::specs::Sectors::zeroed))]
 pub fn zero(memory: &mut [u8])
     ensures { memory.new ≡ zeroed memory.old }
 {
@@ -84,7 +84,7 @@ pub fn zero(memory: &mut [u8])
 }
 
 // The password that a block carries in words 1 to 16.
-#[tactic(auto, using(base::proofs::Tests::picks), unfolding(crate::specs::Passwords::password_of))]
+#[tactic(auto, unfolding(crate::specs::Passwords::password_of))]
 pub fn password(block: [u8; 512]) -> [u8; 32]
     ensures { result ≡ password_of block }
 {
@@ -99,7 +99,6 @@ pub fn password(block: [u8; 512]) -> [u8; 32]
 
 // Whether two passwords are the same. Every byte is looked at, also behind the first that differs, so that how long
 // a guess takes does not tell how much of it was right.
-#[tactic(auto, using(base::proofs::Tests::picks))]
 pub fn same(a: [u8; 32], b: [u8; 32]) -> bool
     ensures { result ≡ same a b }
 {

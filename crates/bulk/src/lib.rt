@@ -14,7 +14,7 @@ use lock::Secrets;
 use settled::Settled;
 
 // How many words passed; where none did of those that were wanted, the call is turned away.
-#[tactic(auto, using(base::proofs::Tests::picks), unfolding(crate::specs::Bulk::counted_reply))]
+#[tactic(auto, unfolding(crate::specs::Bulk::counted_reply))]
 fn counted(passed: usize, wanted: usize) -> Reply
     requires { passed ≤ 65536 }
     ensures { result ≡ counted_reply passed wanted }
@@ -29,7 +29,6 @@ fn counted(passed: usize, wanted: usize) -> Reply
 }
 
 // Words are read from a device in shape over its memory.
-#[tactic(auto, using(base::proofs::Tests::picks))]
 pub fn read_admitted(
     state: &mut [u8],
     buffer: &mut [u8; 512],
@@ -48,7 +47,6 @@ pub fn read_admitted(
 }
 
 // Data words are read into `out`, as many as it has room for, up to the first that is turned away.
-#[tactic(auto, using(base::proofs::Tests::picks))]
 pub fn read_words(state: &mut [u8], buffer: &mut [u8; 512], sectors: &[u8], out: &mut [u8]) -> Reply
     ensures { ReadsLent (read_lent state.old buffer.old sectors.now (length out.old / 2)) (words_lent state.old buffer.old sectors.now (length out.old / 2)) out.old result state.new buffer.new sectors.now out.new }
 {
@@ -60,7 +58,6 @@ pub fn read_words(state: &mut [u8], buffer: &mut [u8; 512], sectors: &[u8], out:
 }
 
 // A password block's word, which may take the whole device, whose hot part is held apart.
-#[tactic(auto, using(base::proofs::Tests::picks))]
 fn block_word(
     state: &mut [u8],
     buffer: &mut [u8; 512],
@@ -89,7 +86,6 @@ fn block_word(
 }
 
 // The word that is not taken in with those before it: a password block's last, or one that is turned away. Whether it is taken.
-#[tactic(auto, using(base::proofs::Tests::picks))]
 fn last_word(
     state: &mut [u8],
     buffer: &mut [u8; 512],
@@ -116,7 +112,6 @@ fn last_word(
 }
 
 // Words are written to a device in shape over its memory.
-#[tactic(auto, using(base::proofs::Tests::picks))]
 pub fn write_admitted(
     state: &mut [u8],
     buffer: &mut [u8; 512],
@@ -145,7 +140,6 @@ pub fn write_admitted(
 }
 
 // Data words are written, up to the first that is turned away.
-#[tactic(auto, using(base::proofs::Tests::picks))]
 pub fn write_words(
     state: &mut [u8],
     buffer: &mut [u8; 512],

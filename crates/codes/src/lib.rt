@@ -30,7 +30,7 @@ pub enum Command {
 }
 
 // The commands with one or two codes each.
-#[tactic(auto, using(base::proofs::Tests::picks), unfolding(crate::specs::Commands::coded_of))]
+#[tactic(auto, unfolding(crate::specs::Commands::coded_of))]
 fn coded(code: u8) -> Command
     ensures { result ≡ coded_of code }
 {
@@ -57,7 +57,7 @@ fn coded(code: u8) -> Command
 }
 
 // The command of a code.
-#[tactic(auto, using(base::proofs::Tests::picks), unfolding(crate::specs::Commands::decode_of))]
+#[tactic(auto, unfolding(crate::specs::Commands::decode_of))]
 pub fn decode(code: u8) -> Command
     ensures { result ≡ decode_of code }
 {
@@ -92,7 +92,6 @@ fn not_frozen(lock: Lock) -> bool
 
 impl Command {
     // Whether the command runs in this lock state, or aborts at once.
-    #[tactic(auto, using(base::proofs::Tests::picks))]
     fn runs_in(self, lock: Lock) -> bool
         ensures { result ≡ runs_in self lock }
     {
@@ -118,7 +117,6 @@ impl Command {
     }
 
     // Whether attempts or preparation bar a command that may run.
-    #[tactic(auto, using(base::proofs::Tests::picks))]
     pub fn barred(self, security: Security) -> bool
         ensures { result ≡ barred_of self security }
     {
@@ -145,7 +143,7 @@ impl Command {
 }
 
 // Whether a code may run in a lock state, or aborts at once: the one place that says so.
-#[tactic(auto, using(base::proofs::Tests::picks), unfolding(crate::specs::MayRun::may_run_of))]
+#[tactic(auto, unfolding(crate::specs::MayRun::may_run_of))]
 pub fn may_run(code: u8, lock: Lock) -> bool
     ensures { result ≡ may_run_of code lock }
 {

@@ -23,7 +23,7 @@ fn leaves(settled: Settled, hot: Hot) -> Front
 }
 
 // SEEK (70h to 7Fh).
-#[tactic(auto, using(base::proofs::Tests::picks), unfolding(crate::specs::Others::seek_of))]
+#[tactic(auto, unfolding(crate::specs::Others::seek_of))]
 fn seek(hot: Hot, settled: Settled) -> Hot
     ensures { (b : List ℕ) → face_with result settled b ≡ seek_of (face_with hot settled b) }
 {
@@ -35,7 +35,7 @@ fn seek(hot: Hot, settled: Settled) -> Hot
     hot.finish()
 }
 
-#[tactic(auto, using(base::proofs::Tests::picks), unfolding(crate::specs::Others::recalibrated_at))]
+#[tactic(auto, unfolding(crate::specs::Others::recalibrated_at))]
 fn recalibrated_at(at: AddressRegisters) -> AddressRegisters
     ensures { result ≡ recalibrated_at at }
 {
@@ -49,7 +49,7 @@ fn recalibrated_at(at: AddressRegisters) -> AddressRegisters
 }
 
 // RECALIBRATE (10h to 1Fh).
-#[tactic(auto, using(base::proofs::Tests::picks), unfolding(crate::specs::Others::recalibrate_of))]
+#[tactic(auto, unfolding(crate::specs::Others::recalibrate_of))]
 fn recalibrate(hot: Hot) -> Hot
     ensures { (s : Settled) → (b : List ℕ) → face_with result s b ≡ recalibrate_of (face_with hot s b) }
 {
@@ -59,7 +59,7 @@ fn recalibrate(hot: Hot) -> Hot
 }
 
 // INITIALIZE DEVICE PARAMETERS (91h).
-#[tactic(auto, using(base::proofs::Tests::picks), unfolding(crate::specs::Others::initialize_parameters_of))]
+#[tactic(auto, unfolding(crate::specs::Others::initialize_parameters_of))]
 fn initialize_parameters(hot: Hot, settled: Settled) -> Front
     ensures { (b : List ℕ) → face_with result.hot result.settled b ≡ initialize_parameters_of (face_with hot settled b) }
 {
@@ -72,7 +72,7 @@ fn initialize_parameters(hot: Hot, settled: Settled) -> Front
 }
 
 // EXECUTE DEVICE DIAGNOSTIC (90h).
-#[tactic(auto, using(base::proofs::Tests::picks), unfolding(crate::specs::Others::diagnostic_of))]
+#[tactic(auto, unfolding(crate::specs::Others::diagnostic_of))]
 fn diagnostic(hot: Hot) -> Hot
     ensures { (s : Settled) → (b : List ℕ) → face_with result s b ≡ diagnostic_of (face_with hot s b) }
 {
@@ -80,7 +80,7 @@ fn diagnostic(hot: Hot) -> Hot
 }
 
 // IDENTIFY DEVICE (ECh).
-#[tactic(auto, using(base::proofs::Tests::picks), unfolding(crate::specs::Others::identify_device_of))]
+#[tactic(auto, unfolding(crate::specs::Others::identify_device_of))]
 fn identify_device(hot: Hot, settled: Settled, buffer: &mut [u8; 512]) -> Hot
     ensures { face_with result settled buffer.new ≡ identify_device_of (face_with hot settled buffer.old) }
 {
@@ -90,7 +90,7 @@ fn identify_device(hot: Hot, settled: Settled, buffer: &mut [u8; 512]) -> Hot
 }
 
 // READ BUFFER (E4h).
-#[tactic(auto, using(base::proofs::Tests::picks), unfolding(crate::specs::Others::read_buffer_of))]
+#[tactic(auto, unfolding(crate::specs::Others::read_buffer_of))]
 fn read_buffer(hot: Hot) -> Hot
     ensures { (s : Settled) → (b : List ℕ) → face_with result s b ≡ read_buffer_of (face_with hot s b) }
 {
@@ -98,7 +98,7 @@ fn read_buffer(hot: Hot) -> Hot
 }
 
 // WRITE BUFFER (E8h).
-#[tactic(auto, using(base::proofs::Tests::picks), unfolding(crate::specs::Others::write_buffer_of))]
+#[tactic(auto, unfolding(crate::specs::Others::write_buffer_of))]
 fn write_buffer(hot: Hot) -> Hot
     ensures { (s : Settled) → (b : List ℕ) → face_with result s b ≡ write_buffer_of (face_with hot s b) }
 {
@@ -106,7 +106,7 @@ fn write_buffer(hot: Hot) -> Hot
 }
 
 // F1h, F2h, F4h and F6h take a password block.
-#[tactic(auto, using(base::proofs::Tests::picks), unfolding(crate::specs::Others::take_password_of))]
+#[tactic(auto, unfolding(crate::specs::Others::take_password_of))]
 fn take_password(hot: Hot, purpose: Purpose) -> Hot
     ensures { (s : Settled) → (b : List ℕ) → face_with result s b ≡ take_password_of (face_with hot s b) purpose }
 {
@@ -115,7 +115,7 @@ fn take_password(hot: Hot, purpose: Purpose) -> Hot
 }
 
 // SECURITY ERASE PREPARE (F3h).
-#[tactic(auto, using(base::proofs::Tests::picks), unfolding(crate::specs::Others::erase_prepare_of))]
+#[tactic(auto, unfolding(crate::specs::Others::erase_prepare_of))]
 fn erase_prepare(hot: Hot, settled: Settled) -> Front
     ensures { (b : List ℕ) → face_with result.hot result.settled b ≡ erase_prepare_of (face_with hot settled b) }
 {
@@ -124,7 +124,7 @@ fn erase_prepare(hot: Hot, settled: Settled) -> Front
 }
 
 // SECURITY FREEZE LOCK (F5h).
-#[tactic(auto, using(base::proofs::Tests::picks), unfolding(crate::specs::Others::freeze_lock_of))]
+#[tactic(auto, unfolding(crate::specs::Others::freeze_lock_of))]
 fn freeze_lock(hot: Hot, settled: Settled) -> Front
     ensures { (b : List ℕ) → face_with result.hot result.settled b ≡ freeze_lock_of (face_with hot settled b) }
 {
@@ -133,7 +133,6 @@ fn freeze_lock(hot: Hot, settled: Settled) -> Front
 }
 
 // A command that nothing bars.
-#[tactic(auto, using(base::proofs::Tests::picks))]
 fn run(
     hot: Hot,
     settled: Settled,
@@ -169,7 +168,6 @@ fn run(
 }
 
 // The transfer dropped, Error and interrupt cleared.
-#[tactic(auto, using(base::proofs::Tests::picks))]
 fn begun(hot: Hot, settled: Settled, buffer: &mut [u8; 512]) -> Front
     ensures { face_with result.hot result.settled buffer.new ≡ begun_of (face_with hot settled buffer.old) }
 {
@@ -179,7 +177,7 @@ fn begun(hot: Hot, settled: Settled, buffer: &mut [u8; 512]) -> Front
 }
 
 // A command that may not run; F4h's abort ends the preparation.
-#[tactic(auto, using(base::proofs::Tests::picks), unfolding(crate::specs::Gate::abort_at_once))]
+#[tactic(auto, unfolding(crate::specs::Gate::abort_at_once))]
 fn abort_at_once(hot: Hot, settled: Settled, code: u8) -> Front
     ensures { (b : List ℕ) → face_with result.hot result.settled b ≡ abort_at_once (face_with hot settled b) code }
 {
@@ -190,7 +188,7 @@ fn abort_at_once(hot: Hot, settled: Settled, code: u8) -> Front
 }
 
 // Lock state, then attempts and preparation, then the command.
-#[tactic(auto, using(base::proofs::Tests::picks), unfolding(crate::specs::Gate::stations_of))]
+#[tactic(auto, unfolding(crate::specs::Gate::stations_of))]
 fn stations(front: Front, code: u8, buffer: &mut [u8; 512], sectors: &[u8]) -> Front
     requires { Memory front.settled.geometry front.settled.translation sectors.now }
     ensures { face_with result.hot result.settled buffer.new ≡ stations_of (face_with front.hot front.settled buffer.old) sectors.now code }
@@ -210,7 +208,7 @@ fn stations(front: Front, code: u8, buffer: &mut [u8; 512], sectors: &[u8]) -> F
 }
 
 // The gate: a write to the Command register, but for DEV.
-#[tactic(auto, using(base::proofs::Tests::picks), unfolding(crate::specs::Gate::command_of))]
+#[tactic(auto, unfolding(crate::specs::Gate::command_of))]
 pub fn command(
     hot: Hot,
     settled: Settled,

@@ -28,7 +28,6 @@ pub struct Outcome {
 }
 
 // The record that a refused setup hands back: every number 0, no mark set.
-#[tactic(auto, using(base::proofs::Tests::picks))]
 fn zero_device() -> Device
     ensures { result ≡ zero_device }
 {
@@ -38,7 +37,6 @@ fn zero_device() -> Device
 }
 
 // A disk of this geometry, identity and master password, just powered on.
-#[tactic(auto, using(base::proofs::Tests::picks))]
 fn fresh(geometry: Geometry, identity: Identity, master: [u8; 32]) -> Device
     ensures { result ≡ fresh_of geometry identity master }
 {
@@ -49,7 +47,7 @@ fn fresh(geometry: Geometry, identity: Identity, master: [u8; 32]) -> Device
 }
 
 // The clauses of answer 2 on DEV.
-#[tactic(auto, using(base::proofs::Tests::picks), unfolding(crate::specs::Host::alone_fits))]
+#[tactic(auto, unfolding(crate::specs::Host::alone_fits))]
 fn alone_fits(hot: Hot) -> bool
     ensures { result ≡ alone_fits hot }
 {
@@ -63,7 +61,6 @@ fn alone_fits(hot: Hot) -> bool
 }
 
 // The clauses of answer 2, over the parts that they speak of.
-#[tactic(auto, using(base::proofs::Tests::picks))]
 pub fn fits(settled: Settled, hot: Hot) -> bool
     ensures { result ≡ parts_shaped settled hot }
 {
@@ -85,7 +82,6 @@ fn told(left: Acted) -> Outcome
 }
 
 impl Device {
-    #[tactic(auto, using(base::proofs::Tests::picks))]
     fn shows(self, answer: Answer, value: u16) -> Outcome
         ensures { result ≡ outcome self answer value }
     {
@@ -97,7 +93,7 @@ impl Device {
     }
 
     // Setup: refused outside the limits, else a disk just powered on.
-    #[tactic(auto, using(base::proofs::Tests::picks), unfolding(crate::specs::Setup::setup_of))]
+    #[tactic(auto, unfolding(crate::specs::Setup::setup_of))]
     pub fn setup(
         cylinders: u16,
         heads: u8,
@@ -117,7 +113,7 @@ impl Device {
     }
 
     // The clauses of answer 2.
-    #[tactic(auto, using(base::proofs::Tests::picks), unfolding(crate::specs::Host::shaped_of))]
+    #[tactic(auto, unfolding(crate::specs::Host::shaped_of))]
     pub fn shaped(self) -> bool
         ensures { result ≡ shaped_of self }
     {
@@ -126,7 +122,6 @@ impl Device {
     }
 
     // The disk's own action.
-    #[tactic(auto, using(base::proofs::Tests::picks))]
     fn acted(self, action: Action, sectors: &mut [u8]) -> Outcome
         requires { Memory self.face.settled.geometry self.face.settled.translation sectors.old }
         ensures { (result ≡ (acted_of self sectors.old action).outcome) × (sectors.new ≡ (acted_of self sectors.old action).sectors) }
@@ -136,7 +131,7 @@ impl Device {
     }
 
     // An action over the disk's own memory, the long way.
-    #[tactic(auto, using(base::proofs::Tests::picks), unfolding(crate::specs::Alone::alone_of))]
+    #[tactic(auto, unfolding(crate::specs::Alone::alone_of))]
     pub fn act(self, action: Action, sectors: &mut [u8]) -> Outcome
         requires { Memory self.face.settled.geometry self.face.settled.translation sectors.old }
         ensures { (result ≡ (alone_of self sectors.old action).outcome) × (sectors.new ≡ (alone_of self sectors.old action).sectors) }
@@ -150,7 +145,6 @@ impl Device {
     }
 
     // What the fast path settled, put in place.
-    #[tactic(auto, using(base::proofs::Tests::picks))]
     fn settles(mut self, buffer: [u8; 512], seen: Seen) -> Outcome
         ensures { result ≡ quick_outcome self buffer seen }
     {
@@ -162,7 +156,6 @@ impl Device {
     }
 
     // The same action, by the fast path where it settles it.
-    #[tactic(auto, using(base::proofs::Tests::picks))]
     fn step(self, action: Action, sectors: &mut [u8]) -> Outcome
         requires { Memory self.face.settled.geometry self.face.settled.translation sectors.old }
         ensures { (result ≡ (alone_of self sectors.old action).outcome) × (sectors.new ≡ (alone_of self sectors.old action).sectors) }
@@ -178,7 +171,7 @@ impl Device {
     }
 
     // Any host action on any device over any memory.
-    #[tactic(auto, using(base::proofs::Tests::picks), unfolding(crate::specs::Host::step_of))]
+    #[tactic(auto, unfolding(crate::specs::Host::step_of))]
     pub fn host(self, action: Action, sectors: &mut [u8]) -> Outcome
         ensures { (result ≡ (step_of self sectors.old action).outcome) × (sectors.new ≡ (step_of self sectors.old action).sectors) }
     {

@@ -26,7 +26,7 @@ fn refused(face: Face, secrets: Secrets) -> Acted
 }
 
 // A data word is written.
-#[tactic(auto, using(base::proofs::Tests::picks), unfolding(crate::specs::Actions::write_word_of))]
+#[tactic(auto, unfolding(crate::specs::Actions::write_word_of))]
 fn write_word(face: Face, secrets: Secrets, w: u16, sectors: &mut [u8]) -> Acted
     requires { Memory face.settled.geometry face.settled.translation sectors.old }
     ensures { (result ≡ (write_word_of face secrets sectors.old w).acted) × (sectors.new ≡ (write_word_of face secrets sectors.old w).sectors) }
@@ -47,7 +47,6 @@ fn write_word(face: Face, secrets: Secrets, w: u16, sectors: &mut [u8]) -> Acted
 }
 
 // One of registers 1 to 6 is written.
-#[tactic(auto, using(base::proofs::Tests::picks))]
 fn register_put(face: Face, n: u8, v: u8) -> Face
     ensures { result ≡ with_hot face (put_register face.hot n v) }
 {
@@ -63,7 +62,6 @@ fn written(face: Face) -> Told
 }
 
 // The Command register is written.
-#[tactic(auto, using(base::proofs::Tests::picks))]
 fn command_written(face: Face, code: u8, sectors: &[u8]) -> Face
     requires { Memory face.settled.geometry face.settled.translation sectors.now }
     ensures { result ≡ command_of face sectors.now code }
@@ -74,7 +72,6 @@ fn command_written(face: Face, code: u8, sectors: &[u8]) -> Face
 }
 
 // Device Control is written.
-#[tactic(auto, using(base::proofs::Tests::picks))]
 fn control_written(face: Face, v: u8) -> Face
     ensures { result ≡ control_of face v }
 {
@@ -84,7 +81,6 @@ fn control_written(face: Face, v: u8) -> Face
 }
 
 // Power-on and hardware reset.
-#[tactic(auto, using(base::proofs::Tests::picks))]
 pub fn powered_on(face: Face) -> Face
     ensures { result ≡ powered_on_face face }
 {
@@ -94,7 +90,7 @@ pub fn powered_on(face: Face) -> Face
 }
 
 // A register is written.
-#[tactic(auto, using(base::proofs::Tests::picks), unfolding(crate::specs::Actions::write_register_of))]
+#[tactic(auto, unfolding(crate::specs::Actions::write_register_of))]
 fn write_register(face: Face, n: u8, v: u8, sectors: &[u8]) -> Told
     requires { Memory face.settled.geometry face.settled.translation sectors.now }
     ensures { result ≡ write_register_of face sectors.now n v }
@@ -112,7 +108,6 @@ fn write_register(face: Face, n: u8, v: u8, sectors: &[u8]) -> Told
 }
 
 // A register is read.
-#[tactic(auto, using(base::proofs::Tests::picks))]
 fn register_read(face: Face, secrets: Secrets, n: u8) -> Acted
     ensures { result ≡ seen_acted face secrets (read_register face.hot n) }
 {
@@ -124,7 +119,6 @@ fn register_read(face: Face, secrets: Secrets, n: u8) -> Acted
 }
 
 // The interrupt line is read.
-#[tactic(auto, using(base::proofs::Tests::picks))]
 fn line_read(face: Face, secrets: Secrets) -> Acted
     ensures { result ≡ acted face secrets Answer.Done (line_of face.hot) }
 {
@@ -142,7 +136,7 @@ fn told_acts(secrets: Secrets, told: Told) -> Acted
 }
 
 // A host action over the disk's own memory.
-#[tactic(auto, using(base::proofs::Tests::picks), unfolding(crate::specs::Actions::act_of))]
+#[tactic(auto, unfolding(crate::specs::Actions::act_of))]
 pub fn act(face: Face, secrets: Secrets, action: Action, sectors: &mut [u8]) -> Acted
     requires { Memory face.settled.geometry face.settled.translation sectors.old }
     ensures { (result ≡ (act_of face secrets sectors.old action).acted) × (sectors.new ≡ (act_of face secrets sectors.old action).sectors) }

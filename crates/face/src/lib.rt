@@ -178,7 +178,6 @@ fn no_signals() -> Signals
 
 impl Hot {
     // Start values, nothing signalled, no transfer.
-    #[tactic(auto, using(base::proofs::Tests::picks))]
     pub fn start() -> Hot
         ensures { result ≡ start_hot }
     {
@@ -225,7 +224,7 @@ impl Hot {
     }
 
     // Status, but for DEV.
-    #[tactic(auto, using(base::proofs::Tests::picks), unfolding(crate::specs::Reads::status_of))]
+    #[tactic(auto, unfolding(crate::specs::Reads::status_of))]
     pub fn status(self) -> u8
         ensures { result ≡ status_of self }
     {
@@ -259,7 +258,7 @@ impl Hot {
     }
 
     // A register is read, but for DEV.
-    #[tactic(auto, using(base::proofs::Tests::picks), unfolding(crate::specs::Reads::read_register))]
+    #[tactic(auto, unfolding(crate::specs::Reads::read_register))]
     pub fn read_register(self, n: u8) -> Seen
         ensures { result ≡ read_register self n }
     {
@@ -277,7 +276,7 @@ impl Hot {
     }
 
     // The interrupt line: raised and not masked.
-    #[tactic(auto, using(base::proofs::Tests::picks), unfolding(crate::specs::Reads::line_of))]
+    #[tactic(auto, unfolding(crate::specs::Reads::line_of))]
     pub fn line(self) -> u16
         ensures { result ≡ line_of self }
     {
@@ -291,7 +290,7 @@ impl Hot {
     }
 
     // Reset held, or a transfer open: writes to registers 1 to 6 do nothing.
-    #[tactic(auto, using(base::proofs::Tests::picks), unfolding(crate::specs::Writes::busy_of))]
+    #[tactic(auto, unfolding(crate::specs::Writes::busy_of))]
     fn busy(self) -> bool
         ensures { result ≡ busy_of self }
     {
@@ -304,7 +303,7 @@ impl Hot {
         true
     }
 
-    #[tactic(auto, using(base::proofs::Tests::picks), unfolding(crate::specs::Writes::store_register))]
+    #[tactic(auto, unfolding(crate::specs::Writes::store_register))]
     fn store_register(mut self, n: u8, v: u8) -> Hot
         ensures { result ≡ store_register self n v }
     {
@@ -337,7 +336,7 @@ impl Hot {
     }
 
     // One of registers 1 to 6 is written.
-    #[tactic(auto, using(base::proofs::Tests::picks), unfolding(crate::specs::Writes::put_register))]
+    #[tactic(auto, unfolding(crate::specs::Writes::put_register))]
     pub fn put_register(self, n: u8, v: u8) -> Hot
         ensures { result ≡ put_register self n v }
     {
@@ -399,7 +398,6 @@ impl Hot {
     }
 
     // EXECUTE DEVICE DIAGNOSTIC's register values.
-    #[tactic(auto, using(base::proofs::Tests::picks))]
     pub fn restarted(self) -> Hot
         ensures { result ≡ with_regs self start_registers }
     {
@@ -465,7 +463,6 @@ impl Face {
 }
 
 // Registers, signals and transfer of a record all zero.
-#[tactic(auto, using(base::proofs::Tests::picks))]
 fn zero_hot() -> Hot
     ensures { result ≡ zero_hot }
 {
@@ -490,7 +487,6 @@ fn zero_hot() -> Hot
 }
 
 // The face of a record all zero.
-#[tactic(auto, using(base::proofs::Tests::picks))]
 pub fn zero_face() -> Face
     ensures { result ≡ zero_face }
 {

@@ -7,14 +7,13 @@ ghost use Rattle.fastpath.specs.Dev.{dev_set, unanswered_of, ignored_of, quick_a
 
 use face::{Action, Answer, Hot, Quick, Transfer};
 
-#[tactic(auto, using(base::proofs::Tests::picks))]
 fn goes_on(hot: Hot, transfer: Transfer, value: u16) -> Quick
     ensures { result ≡ goes_on hot transfer value }
 {
     Quick::Settles(hot.with_transfer(transfer).shows(Answer::Done, value))
 }
 
-#[tactic(auto, using(base::proofs::Tests::picks), unfolding(crate::specs::Quick::quick_read_of))]
+#[tactic(auto, unfolding(crate::specs::Quick::quick_read_of))]
 fn quick_read(hot: Hot, buffer: &[u8; 512]) -> Quick
     ensures { result ≡ quick_read_of hot buffer.now hot.transfer }
 {
@@ -41,7 +40,7 @@ fn quick_read(hot: Hot, buffer: &[u8; 512]) -> Quick
     }
 }
 
-#[tactic(auto, using(base::proofs::Tests::picks), unfolding(crate::specs::Quick::quick_write_of, crate::specs::Quick::quick_write_buffer))]
+#[tactic(auto, unfolding(crate::specs::Quick::quick_write_of, crate::specs::Quick::quick_write_buffer))]
 fn quick_write(hot: Hot, buffer: &mut [u8; 512], w: u16) -> Quick
     ensures { (result ≡ quick_write_of hot hot.transfer) × (buffer.new ≡ quick_write_buffer buffer.old w hot.transfer) }
 {
@@ -74,7 +73,7 @@ fn quick_write(hot: Hot, buffer: &mut [u8; 512], w: u16) -> Quick
     }
 }
 
-#[tactic(auto, using(base::proofs::Tests::picks), unfolding(crate::specs::Quick::quick_put_of))]
+#[tactic(auto, unfolding(crate::specs::Quick::quick_put_of))]
 fn quick_put(hot: Hot, n: u8, v: u8) -> Quick
     ensures { result ≡ quick_put_of hot n v }
 {
@@ -85,7 +84,7 @@ fn quick_put(hot: Hot, n: u8, v: u8) -> Quick
 }
 
 // An action that the hot part and the buffer settle, DEV not looked at.
-#[tactic(auto, using(base::proofs::Tests::picks), unfolding(crate::specs::Quick::quick_of, crate::specs::Quick::quick_buffer))]
+#[tactic(auto, unfolding(crate::specs::Quick::quick_of, crate::specs::Quick::quick_buffer))]
 fn quick_hot(hot: Hot, buffer: &mut [u8; 512], action: Action) -> Quick
     ensures { (result ≡ quick_of hot buffer.old action) × (buffer.new ≡ quick_buffer hot buffer.old action) }
 {
@@ -101,7 +100,7 @@ fn quick_hot(hot: Hot, buffer: &mut [u8; 512], action: Action) -> Quick
 }
 
 // DEV: Device/Head bit 4.
-#[tactic(auto, using(base::proofs::Tests::picks), unfolding(crate::specs::Dev::dev_set))]
+#[tactic(auto, unfolding(crate::specs::Dev::dev_set))]
 pub fn dev_set(hot: Hot) -> bool
     ensures { result ≡ dev_set hot }
 {
@@ -109,7 +108,6 @@ pub fn dev_set(hot: Hot) -> bool
 }
 
 // What a device alone on its cable leaves to device 1: reads of 7 and 8, and commands but 90h.
-#[tactic(auto, using(base::proofs::Tests::picks))]
 fn unanswered(action: Action) -> bool
     ensures { result ≡ unanswered_of action }
 {
@@ -135,7 +133,7 @@ fn unanswered(action: Action) -> bool
 }
 
 // Where DEV is set.
-#[tactic(auto, using(base::proofs::Tests::picks), unfolding(crate::specs::Dev::ignored_of))]
+#[tactic(auto, unfolding(crate::specs::Dev::ignored_of))]
 pub fn ignored(hot: Hot, action: Action) -> bool
     ensures { result ≡ ignored_of hot action }
 {
@@ -146,7 +144,7 @@ pub fn ignored(hot: Hot, action: Action) -> bool
 }
 
 // The fast path: an action that the hot part and the buffer settle.
-#[tactic(auto, using(base::proofs::Tests::picks), unfolding(crate::specs::Dev::quick_alone, crate::specs::Dev::quick_alone_buffer))]
+#[tactic(auto, unfolding(crate::specs::Dev::quick_alone, crate::specs::Dev::quick_alone_buffer))]
 pub fn quick(hot: Hot, buffer: &mut [u8; 512], action: Action) -> Quick
     ensures { (result ≡ quick_alone hot buffer.old action) × (buffer.new ≡ quick_alone_buffer hot buffer.old action) }
 {

@@ -43,7 +43,7 @@ impl Geometry {
     pub const MAX_SECTORS: u8 = 63;
 
     // Whether each count is from 1 to its ceiling.
-    #[tactic(auto, using(base::proofs::Tests::picks), unfolding(crate::specs::Geometry::geometry_fits, crate::specs::Geometry::max_cylinders, crate::specs::Geometry::max_heads, crate::specs::Geometry::max_sectors))]
+    #[tactic(auto, unfolding(crate::specs::Geometry::geometry_fits, crate::specs::Geometry::max_cylinders, crate::specs::Geometry::max_heads, crate::specs::Geometry::max_sectors))]
     pub fn fits(self) -> bool
         ensures { result ≡ geometry_fits self }
     {
@@ -57,7 +57,7 @@ impl Geometry {
     }
 
     // The geometry of three counts, where they are within the limits.
-    #[tactic(auto, using(base::proofs::Tests::picks), unfolding(crate::specs::Geometry::checked_of))]
+    #[tactic(auto, unfolding(crate::specs::Geometry::checked_of))]
     pub fn new(cylinders: u16, heads: u8, sectors: u8) -> Checked
         ensures { result ≡ checked_of cylinders heads sectors }
     {
@@ -74,7 +74,7 @@ impl Geometry {
     }
 
     // How many sectors the disk has.
-    #[tactic(auto, using(base::proofs::Tests::picks), unfolding(crate::specs::Geometry::capacity_of, crate::specs::Translation::product_of))]
+    #[tactic(auto, unfolding(crate::specs::Geometry::capacity_of, crate::specs::Translation::product_of))]
     pub fn capacity(self) -> u32
         ensures { result ≡ capacity_of self }
     {
@@ -93,7 +93,7 @@ impl Geometry {
     }
 
     // The most cylinders of so many heads and sectors that the capacity holds, as far as the registers count them.
-    #[tactic(auto, using(base::proofs::Tests::picks), unfolding(crate::specs::Translation::cylinders_for))]
+    #[tactic(auto, unfolding(crate::specs::Translation::cylinders_for))]
     fn cylinders_for(self, heads: u8, sectors: u8) -> u16
         requires { (0 < heads) × (0 < sectors) }
         ensures { result ≡ cylinders_for self heads sectors }
@@ -103,7 +103,7 @@ impl Geometry {
     }
 
     // 91h, from Sector Count and Device/Head.
-    #[tactic(auto, using(base::proofs::Tests::picks), unfolding(crate::specs::Translation::initialized_of))]
+    #[tactic(auto, unfolding(crate::specs::Translation::initialized_of))]
     pub fn initialize(self, count: u8, head: u8) -> Initialized
         ensures { result ≡ initialized_of self count head }
     {
@@ -125,7 +125,7 @@ impl Geometry {
 
 impl Translation {
     // Whether 91h could have made this translation on a disk of that geometry; the factory's is one such.
-    #[tactic(auto, using(base::proofs::Tests::picks), unfolding(crate::specs::Translation::translation_allowed))]
+    #[tactic(auto, unfolding(crate::specs::Translation::translation_allowed))]
     pub fn allowed(self, geometry: Geometry) -> bool
         ensures { result ≡ translation_allowed geometry self }
     {
@@ -139,7 +139,7 @@ impl Translation {
     }
 
     // How many sectors CHS addresses reach.
-    #[tactic(auto, using(base::proofs::Tests::picks), unfolding(crate::specs::Translation::product_of))]
+    #[tactic(auto, unfolding(crate::specs::Translation::product_of))]
     pub fn product(self) -> u32
         ensures { result ≡ product_of self }
     {

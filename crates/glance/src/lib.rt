@@ -44,7 +44,6 @@ fn block_at(mut block: PasswordBlock, word: u8) -> PasswordBlock
     block
 }
 
-#[tactic(auto, using(base::proofs::Tests::picks))]
 fn placed_at(transfer: Transfer, word: u8) -> Transfer
     ensures { result ≡ placed_at transfer word }
 {
@@ -66,7 +65,6 @@ fn with_interrupt(mut hot: Hot, raised: bool) -> Hot
 }
 
 // The hot part, with what was held apart put back.
-#[tactic(auto, using(base::proofs::Tests::picks))]
 pub fn hot_at(hot: Hot, word: u8, raised: bool) -> Hot
     ensures { result ≡ hot_at hot word raised }
 {
@@ -102,7 +100,7 @@ fn takes_in(transfer: Transfer) -> bool
     }
 }
 
-#[tactic(auto, using(base::proofs::Tests::picks), unfolding(crate::specs::Glances::read_glance))]
+#[tactic(auto, unfolding(crate::specs::Glances::read_glance))]
 fn look_read(transfer: Transfer, word: u8, raised: bool, buffer: &[u8; 512]) -> Glance
     ensures { result ≡ read_glance transfer word raised buffer.now }
 {
@@ -116,7 +114,7 @@ fn look_read(transfer: Transfer, word: u8, raised: bool, buffer: &[u8; 512]) -> 
     Glance::Beyond
 }
 
-#[tactic(auto, using(base::proofs::Tests::picks), unfolding(crate::specs::Glances::write_glance, crate::specs::Glances::write_glance_buffer))]
+#[tactic(auto, unfolding(crate::specs::Glances::write_glance, crate::specs::Glances::write_glance_buffer))]
 fn look_write(transfer: Transfer, word: u8, raised: bool, buffer: &mut [u8; 512], w: u16) -> Glance
     ensures { (result ≡ write_glance transfer word raised) × (buffer.new ≡ write_glance_buffer transfer word buffer.old w) }
 {
@@ -130,7 +128,7 @@ fn look_write(transfer: Transfer, word: u8, raised: bool, buffer: &mut [u8; 512]
     Glance::Beyond
 }
 
-#[tactic(auto, using(base::proofs::Tests::picks), unfolding(crate::specs::Glances::status_glance))]
+#[tactic(auto, unfolding(crate::specs::Glances::status_glance))]
 fn look_status(hot: Hot, word: u8, raised: bool) -> Glance
     ensures { result ≡ status_glance hot word raised }
 {
@@ -140,7 +138,7 @@ fn look_status(hot: Hot, word: u8, raised: bool) -> Glance
     Glance::Shows(word, raised, hot.status() as u16)
 }
 
-#[tactic(auto, using(base::proofs::Tests::picks), unfolding(crate::specs::Glances::register_glance))]
+#[tactic(auto, unfolding(crate::specs::Glances::register_glance))]
 fn look_register(hot: Hot, word: u8, raised: bool, n: u8) -> Glance
     ensures { result ≡ register_glance hot word raised n }
 {
@@ -153,7 +151,6 @@ fn look_register(hot: Hot, word: u8, raised: bool, n: u8) -> Glance
     Glance::Beyond
 }
 
-#[tactic(auto, using(base::proofs::Tests::picks))]
 fn look_line(hot: Hot, raised: bool) -> u16
     ensures { result ≡ line_of (with_interrupt hot raised) }
 {
@@ -161,7 +158,7 @@ fn look_line(hot: Hot, raised: bool) -> u16
 }
 
 // The action on the hot part, whose next word's place and interrupt are these.
-#[tactic(auto, using(base::proofs::Tests::picks), unfolding(crate::specs::Glances::glance_of, crate::specs::Glances::glance_buffer))]
+#[tactic(auto, unfolding(crate::specs::Glances::glance_of, crate::specs::Glances::glance_buffer))]
 pub fn look(hot: Hot, word: u8, raised: bool, buffer: &mut [u8; 512], action: Action) -> Glance
     ensures { (result ≡ glance_of hot word raised buffer.old action) × (buffer.new ≡ glance_buffer hot word buffer.old action) }
 {

@@ -21,7 +21,7 @@ fn weighed(set: bool, weight: u16) -> u16
 }
 
 // Word 128.
-#[tactic(auto, using(base::proofs::Tests::picks), unfolding(crate::specs::SecurityWord::security_word))]
+#[tactic(auto, unfolding(crate::specs::SecurityWord::security_word))]
 fn security_word(security: Security) -> u16
     ensures { result ≡ security_word security }
 {
@@ -47,7 +47,7 @@ fn high_word(number: u32) -> u16
 }
 
 // Word n of a text.
-#[tactic(auto, using(base::proofs::Tests::picks), unfolding(crate::specs::Words::text_word))]
+#[tactic(auto, unfolding(crate::specs::Words::text_word))]
 fn text_word(text: &[u8], n: u16) -> u16
     requires { 2 * n + 1 < length text.now }
     ensures { result ≡ text_word text.now n }
@@ -58,7 +58,7 @@ fn text_word(text: &[u8], n: u16) -> u16
 }
 
 // Word n where it is no text.
-#[tactic(auto, using(base::proofs::Tests::picks), unfolding(crate::specs::Words::number_word))]
+#[tactic(auto, unfolding(crate::specs::Words::number_word))]
 fn number_word(settled: Settled, n: u16) -> u16
     ensures { result ≡ number_word settled n }
 {
@@ -88,7 +88,7 @@ fn number_word(settled: Settled, n: u16) -> u16
 }
 
 // Word n.
-#[tactic(auto, using(base::proofs::Tests::picks), unfolding(crate::specs::Words::identify_word))]
+#[tactic(auto, unfolding(crate::specs::Words::identify_word))]
 fn identify_word(settled: Settled, n: u16) -> u16
     ensures { result ≡ identify_word settled n }
 {
@@ -109,7 +109,6 @@ fn identify_word(settled: Settled, n: u16) -> u16
 }
 
 // The block that IDENTIFY DEVICE (ECh) hands over.
-#[tactic(auto, using(base::proofs::Tests::picks))]
 pub fn identify(settled: Settled) -> [u8; 512]
     ensures { result ≡ identify_of settled }
 {

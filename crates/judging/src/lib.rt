@@ -24,7 +24,7 @@ pub struct Judged {
 }
 
 // Word 0 bit 0: the master password, else the user's.
-#[tactic(auto, using(base::proofs::Tests::picks), unfolding(crate::specs::Passwords::master_picked))]
+#[tactic(auto, unfolding(crate::specs::Passwords::master_picked))]
 fn master_picked(block: &[u8; 512]) -> bool
     ensures { result ≡ master_picked block.now }
 {
@@ -32,7 +32,7 @@ fn master_picked(block: &[u8; 512]) -> bool
 }
 
 // Word 0 bit 8: level Maximum, else High.
-#[tactic(auto, using(base::proofs::Tests::picks), unfolding(crate::specs::Passwords::maximum_asked))]
+#[tactic(auto, unfolding(crate::specs::Passwords::maximum_asked))]
 fn maximum_asked(block: &[u8; 512]) -> bool
     ensures { result ≡ maximum_asked block.now }
 {
@@ -54,7 +54,7 @@ fn with_master(mut secrets: Secrets, password: [u8; 32]) -> Secrets
 }
 
 // The stored password that the block picks.
-#[tactic(auto, using(base::proofs::Tests::picks), unfolding(crate::specs::Passwords::picked_of))]
+#[tactic(auto, unfolding(crate::specs::Passwords::picked_of))]
 fn picked(secrets: Secrets, block: &[u8; 512]) -> [u8; 32]
     ensures { result ≡ picked_of secrets block.now }
 {
@@ -67,7 +67,7 @@ fn picked(secrets: Secrets, block: &[u8; 512]) -> [u8; 32]
 }
 
 // Whether the block's password is the one that it picks.
-#[tactic(auto, using(base::proofs::Tests::picks), unfolding(crate::specs::Passwords::matches_of))]
+#[tactic(auto, unfolding(crate::specs::Passwords::matches_of))]
 fn matches(secrets: Secrets, block: [u8; 512]) -> bool
     ensures { result ≡ matches_of secrets block }
 {
@@ -84,7 +84,7 @@ fn opened(security: Security) -> Security
 }
 
 // UNLOCK's mismatch: one attempt less.
-#[tactic(auto, using(base::proofs::Tests::picks), unfolding(crate::specs::Judging::mismatched_of))]
+#[tactic(auto, unfolding(crate::specs::Judging::mismatched_of))]
 fn mismatched(mut security: Security) -> Security
     ensures { result ≡ mismatched_of security }
 {
@@ -124,7 +124,7 @@ fn ends(security: Security, secrets: Secrets, verdict: Verdict) -> Judged
 }
 
 // SECURITY SET PASSWORD (F1h).
-#[tactic(auto, using(base::proofs::Tests::picks), unfolding(crate::specs::Judging::set_of))]
+#[tactic(auto, unfolding(crate::specs::Judging::set_of))]
 fn set(security: Security, secrets: Secrets, block: [u8; 512]) -> Judged
     ensures { result ≡ set_of security secrets block }
 {
@@ -141,7 +141,7 @@ fn set(security: Security, secrets: Secrets, block: [u8; 512]) -> Judged
 }
 
 // The master password at level Maximum, which UNLOCK does not take.
-#[tactic(auto, using(base::proofs::Tests::picks), unfolding(crate::specs::Judging::master_at_maximum))]
+#[tactic(auto, unfolding(crate::specs::Judging::master_at_maximum))]
 fn master_at_maximum(security: Security, block: &[u8; 512]) -> bool
     ensures { result ≡ master_at_maximum security block.now }
 {
@@ -151,7 +151,7 @@ fn master_at_maximum(security: Security, block: &[u8; 512]) -> bool
     false
 }
 
-#[tactic(auto, using(base::proofs::Tests::picks), unfolding(crate::specs::Judging::unlock_locked))]
+#[tactic(auto, unfolding(crate::specs::Judging::unlock_locked))]
 fn unlock_locked(security: Security, secrets: Secrets, block: [u8; 512]) -> Judged
     ensures { result ≡ unlock_locked security secrets block }
 {
@@ -165,7 +165,7 @@ fn unlock_locked(security: Security, secrets: Secrets, block: [u8; 512]) -> Judg
 }
 
 // SECURITY UNLOCK (F2h).
-#[tactic(auto, using(base::proofs::Tests::picks), unfolding(crate::specs::Judging::unlock_of))]
+#[tactic(auto, unfolding(crate::specs::Judging::unlock_of))]
 fn unlock(security: Security, secrets: Secrets, block: [u8; 512]) -> Judged
     ensures { result ≡ unlock_of security secrets block }
 {
@@ -177,7 +177,7 @@ fn unlock(security: Security, secrets: Secrets, block: [u8; 512]) -> Judged
 }
 
 // F4h's rule: compared at either level, uncompared if security is not enabled.
-#[tactic(auto, using(base::proofs::Tests::picks), unfolding(crate::specs::Judging::accepts_of))]
+#[tactic(auto, unfolding(crate::specs::Judging::accepts_of))]
 fn accepts(security: Security, secrets: Secrets, block: [u8; 512]) -> bool
     ensures { result ≡ accepts_of security secrets block }
 {
@@ -188,7 +188,7 @@ fn accepts(security: Security, secrets: Secrets, block: [u8; 512]) -> bool
 }
 
 // SECURITY ERASE UNIT (F4h).
-#[tactic(auto, using(base::proofs::Tests::picks), unfolding(crate::specs::Judging::erase_of))]
+#[tactic(auto, unfolding(crate::specs::Judging::erase_of))]
 fn erase(security: Security, secrets: Secrets, block: [u8; 512]) -> Judged
     ensures { result ≡ erase_of security secrets block }
 {
@@ -203,7 +203,7 @@ fn erase(security: Security, secrets: Secrets, block: [u8; 512]) -> Judged
 }
 
 // SECURITY DISABLE PASSWORD (F6h).
-#[tactic(auto, using(base::proofs::Tests::picks), unfolding(crate::specs::Judging::disable_of))]
+#[tactic(auto, unfolding(crate::specs::Judging::disable_of))]
 fn disable_password(security: Security, secrets: Secrets, block: [u8; 512]) -> Judged
     ensures { result ≡ disable_of security secrets block }
 {
@@ -218,7 +218,7 @@ fn disable_password(security: Security, secrets: Secrets, block: [u8; 512]) -> J
 }
 
 // A whole password block.
-#[tactic(auto, using(base::proofs::Tests::picks), unfolding(crate::specs::Judging::judge_of))]
+#[tactic(auto, unfolding(crate::specs::Judging::judge_of))]
 pub fn judge(security: Security, purpose: Purpose, secrets: Secrets, block: [u8; 512]) -> Judged
     ensures { result ≡ judge_of purpose security secrets block }
 {

@@ -26,7 +26,6 @@ fn address_at(state: &[u8], at: usize) -> AddressRegisters
     }
 }
 
-#[tactic(auto, using(base::proofs::Tests::picks))]
 fn registers_at(state: &[u8]) -> Registers
     requires { length state.now ≡ 163 }
     ensures { result ≡ registers_stored state.now }
@@ -47,7 +46,6 @@ fn mark(byte: u8) -> bool
     byte == 1
 }
 
-#[tactic(auto, using(base::proofs::Tests::picks))]
 fn signals_at(state: &[u8]) -> Signals
     requires { length state.now ≡ 163 }
     ensures { result ≡ signals_stored state.now }
@@ -60,7 +58,6 @@ fn signals_at(state: &[u8]) -> Signals
     }
 }
 
-#[tactic(auto, using(base::proofs::Tests::picks))]
 fn run_at(state: &[u8]) -> Run
     requires { length state.now ≡ 163 }
     ensures { result ≡ run_stored state.now }
@@ -80,7 +77,7 @@ fn block_for(purpose: Purpose, word: u8) -> PasswordBlock
 }
 
 // Byte 11: the kind of the transfer.
-#[tactic(auto, using(base::proofs::Tests::picks), unfolding(crate::specs::Stored::transfer_stored))]
+#[tactic(auto, unfolding(crate::specs::Stored::transfer_stored))]
 fn transfer_at(state: &[u8]) -> Transfer
     requires { length state.now ≡ 163 }
     ensures { result ≡ transfer_stored state.now }
@@ -100,7 +97,6 @@ fn transfer_at(state: &[u8]) -> Transfer
 }
 
 // Bytes 0 to 17.
-#[tactic(auto, using(base::proofs::Tests::picks))]
 pub fn hot_at(state: &[u8]) -> Hot
     requires { length state.now ≡ 163 }
     ensures { result ≡ hot_stored state.now }
@@ -115,7 +111,6 @@ pub fn hot_at(state: &[u8]) -> Hot
     }
 }
 
-#[tactic(auto, using(base::proofs::Tests::picks))]
 fn geometry_at(state: &[u8]) -> Geometry
     requires { length state.now ≡ 163 }
     ensures { result ≡ geometry_stored state.now }
@@ -127,7 +122,6 @@ fn geometry_at(state: &[u8]) -> Geometry
     }
 }
 
-#[tactic(auto, using(base::proofs::Tests::picks))]
 fn translation_at(state: &[u8]) -> Translation
     requires { length state.now ≡ 163 }
     ensures { result ≡ translation_stored state.now }
@@ -139,7 +133,7 @@ fn translation_at(state: &[u8]) -> Translation
     }
 }
 
-#[tactic(auto, using(base::proofs::Tests::picks), unfolding(crate::specs::Stored::lock_stored))]
+#[tactic(auto, unfolding(crate::specs::Stored::lock_stored))]
 fn lock_of(byte: u8) -> Lock
     ensures { result ≡ lock_stored byte }
 {
@@ -150,7 +144,6 @@ fn lock_of(byte: u8) -> Lock
     }
 }
 
-#[tactic(auto, using(base::proofs::Tests::picks))]
 fn security_at(state: &[u8]) -> Security
     requires { length state.now ≡ 163 }
     ensures { result ≡ security_stored state.now }
@@ -166,7 +159,6 @@ fn security_at(state: &[u8]) -> Security
 }
 
 // All of `part` becomes the bytes from `at` on.
-#[tactic(auto, using(base::proofs::Tests::picks))]
 fn fill(part: &mut [u8], bytes: &[u8], at: usize)
     requires { at + length part.old ≤ length bytes.now }
     ensures { part.new ≡ take (length part.old) (drop at bytes.now) }
@@ -179,7 +171,6 @@ fn fill(part: &mut [u8], bytes: &[u8], at: usize)
 }
 
 // Serial, firmware and model, one after the other.
-#[tactic(auto, using(base::proofs::Tests::picks))]
 pub fn identity_at(bytes: &[u8], at: usize) -> Identity
     requires { at + 68 ≤ length bytes.now }
     ensures { result ≡ identity_stored bytes.now at }
@@ -198,7 +189,6 @@ pub fn identity_at(bytes: &[u8], at: usize) -> Identity
 }
 
 // Bytes 18 to 98.
-#[tactic(auto, using(base::proofs::Tests::picks))]
 pub fn settled_at(state: &[u8]) -> Settled
     requires { length state.now ≡ 163 }
     ensures { result ≡ settled_stored state.now }
@@ -245,7 +235,7 @@ fn no_run(state: &[u8]) -> bool
 }
 
 // Bytes that the transfer has no use for are 0.
-#[tactic(auto, using(base::proofs::Tests::picks), unfolding(crate::specs::Stored::transfer_formed))]
+#[tactic(auto, unfolding(crate::specs::Stored::transfer_formed))]
 fn transfer_fits(state: &[u8]) -> bool
     requires { length state.now ≡ 163 }
     ensures { result ≡ transfer_formed state.now }
@@ -259,7 +249,7 @@ fn transfer_fits(state: &[u8]) -> bool
 }
 
 // Whether the bytes are those of a device: each has one way to be written.
-#[tactic(auto, using(base::proofs::Tests::picks), unfolding(crate::specs::Stored::formed_of))]
+#[tactic(auto, unfolding(crate::specs::Stored::formed_of))]
 pub fn formed(state: &[u8]) -> bool
     ensures { result ≡ formed_of state.now }
 {
@@ -278,7 +268,6 @@ fn byte_of(mark: bool) -> u8
     0
 }
 
-#[tactic(auto, using(base::proofs::Tests::picks))]
 fn put_run(state: &mut [u8], kind: u8, run: Run)
     requires { length state.old ≡ 163 }
     ensures { state.new ≡ sets state.old 11 (run_bytes kind run) }
@@ -316,7 +305,6 @@ fn kind_for(purpose: Purpose) -> u8
     }
 }
 
-#[tactic(auto, using(base::proofs::Tests::picks))]
 fn put_transfer(state: &mut [u8], transfer: Transfer)
     requires { length state.old ≡ 163 }
     ensures { state.new ≡ sets state.old 11 (transfer_bytes transfer) }
@@ -335,7 +323,6 @@ fn put_transfer(state: &mut [u8], transfer: Transfer)
 }
 
 // Bytes 0 to 17 become those of the hot part.
-#[tactic(auto, using(base::proofs::Tests::picks))]
 pub fn put_hot(state: &mut [u8], hot: Hot)
     requires { length state.old ≡ 163 }
     ensures { state.new ≡ sets state.old 0 (hot_bytes hot) }
@@ -365,7 +352,6 @@ fn lock_byte(lock: Lock) -> u8
     }
 }
 
-#[tactic(auto, using(base::proofs::Tests::picks))]
 fn put_numbers(state: &mut [u8], settled: Settled)
     requires { length state.old ≡ 163 }
     ensures { state.new ≡ sets state.old 18 (number_bytes settled) }
@@ -390,7 +376,6 @@ fn put_numbers(state: &mut [u8], settled: Settled)
 }
 
 // The bytes from `at` on become these.
-#[tactic(auto, using(base::proofs::Tests::picks))]
 fn put_bytes(state: &mut [u8], at: usize, bytes: &[u8])
     requires { at + length bytes.now ≤ length state.old }
     ensures { state.new ≡ sets state.old at bytes.now }
@@ -402,7 +387,6 @@ fn put_bytes(state: &mut [u8], at: usize, bytes: &[u8])
     }
 }
 
-#[tactic(auto, using(base::proofs::Tests::picks))]
 fn put_identity(state: &mut [u8], identity: Identity)
     requires { length state.old ≡ 163 }
     ensures { (state.new ≡ sets state.old 31 (identity_bytes identity)) × (length (identity_bytes identity) ≡ 68) }
@@ -415,7 +399,6 @@ fn put_identity(state: &mut [u8], identity: Identity)
     put_bytes(state, 59, &model);
 }
 
-#[tactic(auto, using(base::proofs::Tests::picks))]
 fn put_secrets(state: &mut [u8], secrets: Secrets)
     requires { length state.old ≡ 163 }
     ensures { (state.new ≡ sets state.old 99 (secrets_bytes secrets)) × (length (secrets_bytes secrets) ≡ 64) }
@@ -427,7 +410,6 @@ fn put_secrets(state: &mut [u8], secrets: Secrets)
 }
 
 // Bytes 0 to 98 become those of hot and settled part.
-#[tactic(auto, using(base::proofs::Tests::picks))]
 pub fn put_front(state: &mut [u8], front: Front)
     requires { length state.old ≡ 163 }
     ensures { (state.new ≡ sets state.old 0 (front_bytes front.hot front.settled)) × (length (front_bytes front.hot front.settled) ≡ 99) }
@@ -440,7 +422,6 @@ pub fn put_front(state: &mut [u8], front: Front)
 }
 
 // State and buffer become the device's.
-#[tactic(auto, using(base::proofs::Tests::picks))]
 pub fn put_device(state: &mut [u8], buffer: &mut [u8; 512], device: Device)
     requires { length state.old ≡ 163 }
     ensures { (state.new ≡ state_of device) × (buffer.new ≡ device.face.buffer) }

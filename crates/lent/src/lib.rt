@@ -26,7 +26,6 @@ pub fn answered(number: u8, value: u32) -> Reply
     }
 }
 
-#[tactic(auto, using(base::proofs::Tests::picks))]
 pub fn refused(answer: Answer) -> Reply
     ensures { result ≡ host_reply (number_of answer) 0 }
 {
@@ -34,7 +33,7 @@ pub fn refused(answer: Answer) -> Reply
 }
 
 // Whether a call goes on: Done, or why it is turned away.
-#[tactic(auto, using(base::proofs::Tests::picks), unfolding(crate::specs::Lent::admission_of))]
+#[tactic(auto, unfolding(crate::specs::Lent::admission_of))]
 pub fn admission(state: &[u8], sectors: &[u8]) -> Answer
     ensures { result ≡ admission_of state.now sectors.now }
 {
@@ -63,7 +62,6 @@ fn refuse_setup(state: &mut [u8], buffer: &mut [u8; 512]) -> Reply
 }
 
 // Setup: state and buffer become a disk's just powered on, or all zero where it is refused.
-#[tactic(auto, using(base::proofs::Tests::picks))]
 pub fn setup(
     state: &mut [u8],
     buffer: &mut [u8; 512],

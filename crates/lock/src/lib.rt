@@ -71,7 +71,7 @@ impl Lock {
     }
 }
 
-#[tactic(auto, using(base::proofs::Tests::picks), unfolding(crate::specs::Lock::starting_lock))]
+#[tactic(auto, unfolding(crate::specs::Lock::starting_lock))]
 fn starting_lock(enabled: bool) -> Lock
     ensures { result ≡ starting_lock enabled }
 {
@@ -119,7 +119,7 @@ impl Security {
     }
 
     // No attempts left.
-    #[tactic(auto, using(base::proofs::Tests::picks), unfolding(crate::specs::Lock::exhausted_of))]
+    #[tactic(auto, unfolding(crate::specs::Lock::exhausted_of))]
     pub fn exhausted(self) -> bool
         ensures { result ≡ exhausted_of self }
     {
@@ -127,7 +127,7 @@ impl Security {
     }
 
     // What bars ERASE UNIT: no preparation, or no attempts left.
-    #[tactic(auto, using(base::proofs::Tests::picks), unfolding(crate::specs::Lock::cannot_erase))]
+    #[tactic(auto, unfolding(crate::specs::Lock::cannot_erase))]
     pub fn cannot_erase(self) -> bool
         ensures { result ≡ cannot_erase self }
     {
@@ -138,7 +138,7 @@ impl Security {
     }
 
     // The clauses of answer 2 on attempts and lock.
-    #[tactic(auto, using(base::proofs::Tests::picks), unfolding(crate::specs::Lock::security_fits))]
+    #[tactic(auto, unfolding(crate::specs::Lock::security_fits))]
     pub fn fits(self) -> bool
         ensures { result ≡ security_fits self }
     {
@@ -153,7 +153,6 @@ impl Security {
     }
 
     // Power-on and hardware reset.
-    #[tactic(auto, using(base::proofs::Tests::picks))]
     pub fn power_on(mut self) -> Self
         ensures { result ≡ powered_on self }
     {
@@ -164,7 +163,7 @@ impl Security {
 }
 
 // The user password of a disk without security.
-#[tactic(auto, using(base::proofs::Tests::picks), unfolding(crate::specs::Passwords::zero_password))]
+#[tactic(auto, unfolding(crate::specs::Passwords::zero_password))]
 pub fn no_password() -> [u8; 32]
     ensures { result ≡ zero_password }
 {
@@ -173,7 +172,6 @@ pub fn no_password() -> [u8; 32]
 
 impl Secrets {
     // The passwords of a new disk.
-    #[tactic(auto, using(base::proofs::Tests::picks))]
     pub fn fresh(master: [u8; 32]) -> Secrets
         ensures { result ≡ fresh_secrets master }
     {

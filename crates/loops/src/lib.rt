@@ -10,7 +10,6 @@ use glance::Glance;
 use records::Found;
 
 // The reply to a record that the fast path settled.
-#[tactic(auto, using(base::proofs::Tests::picks))]
 fn answer(out: &mut [u8], put: usize, seen: Seen)
     requires { put + 5 ≤ length out.old }
     ensures { out.new ≡ sets out.old put (settled_reply seen) }
@@ -37,7 +36,6 @@ pub fn standing(hot: Hot, at: usize, put: usize, left: usize) -> Stand
 }
 
 // Replays records that need a glance only, of which the loop holds the next word's place and the interrupt apart.
-#[tactic(auto, using(base::proofs::Tests::picks))]
 fn glide(from: Stand, buffer: &mut [u8; 512], rec: &[u8], out: &mut [u8]) -> Stand
     requires { Stands rec.now out.old from }
     ensures { Onward rec.now (way_at from buffer.old out.old) (way_at result buffer.new out.new) }
@@ -70,7 +68,7 @@ fn glide(from: Stand, buffer: &mut [u8; 512], rec: &[u8], out: &mut [u8]) -> Sta
 }
 
 // Replays the records that the hot part and the buffer settle, up to the first other one.
-#[tactic(auto, using(base::proofs::Tests::picks), unfolding(crate::specs::Ways::swift_as))]
+#[tactic(auto, unfolding(crate::specs::Ways::swift_as))]
 pub fn swift(from: Stand, buffer: &mut [u8; 512], rec: &[u8], out: &mut [u8]) -> Stand
     requires { Stands rec.now out.old from }
     ensures { way_at result buffer.new out.new ≡ swift_of from.left rec.now (way_at from buffer.old out.old) }

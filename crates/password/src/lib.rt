@@ -10,7 +10,6 @@ use judging::{Judged, Verdict};
 use lock::{Purpose, Secrets, Security};
 
 // The settings that a password block left, and the buffer zeroed.
-#[tactic(auto, using(base::proofs::Tests::picks))]
 fn password_ended(face: Face, security: Security) -> Face
     ensures { result ≡ password_ended face security }
 {
@@ -20,7 +19,6 @@ fn password_ended(face: Face, security: Security) -> Face
 }
 
 // The face, by how the command ends.
-#[tactic(auto, using(base::proofs::Tests::picks))]
 fn ended_as(face: Face, verdict: Verdict) -> Face
     ensures { result ≡ ended_as face verdict }
 {
@@ -32,7 +30,6 @@ fn ended_as(face: Face, verdict: Verdict) -> Face
 }
 
 // The sectors, by how the command ends.
-#[tactic(auto, using(base::proofs::Tests::picks))]
 fn erase_as(verdict: Verdict, sectors: &mut [u8])
     ensures { sectors.new ≡ sectors_as sectors.old verdict }
 {
@@ -44,7 +41,6 @@ fn erase_as(verdict: Verdict, sectors: &mut [u8])
 }
 
 // What a judgement leaves.
-#[tactic(auto, using(base::proofs::Tests::picks))]
 fn judged_ends(face: Face, judged: Judged, sectors: &mut [u8]) -> Acted
     ensures { (result ≡ judged_acted face judged) × (sectors.new ≡ sectors_as sectors.old judged.verdict) }
 {
@@ -56,7 +52,7 @@ fn judged_ends(face: Face, judged: Judged, sectors: &mut [u8]) -> Acted
 }
 
 // The last word of a password block has arrived.
-#[tactic(auto, using(base::proofs::Tests::picks), unfolding(crate::specs::Passwords::password_last, crate::specs::Passwords::password_last_sectors))]
+#[tactic(auto, unfolding(crate::specs::Passwords::password_last, crate::specs::Passwords::password_last_sectors))]
 fn password_last(face: Face, secrets: Secrets, purpose: Purpose, sectors: &mut [u8]) -> Acted
     ensures { (result ≡ password_last face secrets purpose) × (sectors.new ≡ password_last_sectors face secrets sectors.old purpose) }
 {
@@ -71,7 +67,6 @@ fn password_last(face: Face, secrets: Secrets, purpose: Purpose, sectors: &mut [
 }
 
 // A word of a password block but its last has arrived.
-#[tactic(auto, using(base::proofs::Tests::picks))]
 fn password_more(face: Face, block: PasswordBlock, w: u16) -> Face
     requires { block.word < 255 }
     ensures { result ≡ password_more face block w }
@@ -82,7 +77,7 @@ fn password_more(face: Face, block: PasswordBlock, w: u16) -> Face
 }
 
 // A word of a password block is written.
-#[tactic(auto, using(base::proofs::Tests::picks), unfolding(crate::specs::Passwords::password_word, crate::specs::Passwords::password_word_sectors))]
+#[tactic(auto, unfolding(crate::specs::Passwords::password_word, crate::specs::Passwords::password_word_sectors))]
 pub fn password_word(
     face: Face,
     secrets: Secrets,

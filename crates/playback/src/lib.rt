@@ -37,7 +37,7 @@ impl Stage {
     }
 }
 
-#[tactic(auto, using(base::proofs::Tests::picks), unfolding(crate::specs::Replay::spaces))]
+#[tactic(auto, unfolding(crate::specs::Replay::spaces))]
 fn spaces() -> Identity
     ensures { result ≡ spaces }
 {
@@ -52,7 +52,6 @@ fn spaces() -> Identity
 }
 
 // The replay's disk, just powered on.
-#[tactic(auto, using(base::proofs::Tests::picks))]
 pub fn replay_device() -> Device
     ensures { result ≡ replay_device }
 {

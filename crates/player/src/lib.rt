@@ -32,7 +32,6 @@ struct Course {
 }
 
 // The device, of which the inner loops held the hot part and the buffer apart.
-#[tactic(auto, using(base::proofs::Tests::picks))]
 fn whole(mut device: Device, hot: Hot, buffer: [u8; 512]) -> Device
     ensures { result ≡ whole_of device hot buffer }
 {
@@ -53,7 +52,7 @@ pub fn halt(device: Device, stage: Stage, taken: usize, made: usize) -> Came
 }
 
 // The bytes go on with no whole record: a fault, where no more of them come.
-#[tactic(auto, using(base::proofs::Tests::picks), unfolding(crate::specs::Parts::cut_reply, crate::specs::Parts::cut_made))]
+#[tactic(auto, unfolding(crate::specs::Parts::cut_reply, crate::specs::Parts::cut_made))]
 fn cut(device: Device, last: bool, out: &mut [u8], at: usize, put: usize) -> Came
     requires { put + 3 ≤ length out.old }
     ensures { (result ≡ came device (cut_stage last) at (cut_made last put)) × (out.new ≡ cut_reply last out.old put) }
@@ -66,7 +65,6 @@ fn cut(device: Device, last: bool, out: &mut [u8], at: usize, put: usize) -> Cam
 }
 
 // The records from there on that the hot part and the buffer settle.
-#[tactic(auto, using(base::proofs::Tests::picks))]
 fn stretch(device: Device, at: usize, put: usize, left: usize, rec: &[u8], out: &mut [u8]) -> Course
     requires { Stands rec.now out.old (stand_at device.face.hot at put left) }
     ensures { (result ≡ course_of device (stretch_way device at put left rec.now out.old)) × (out.new ≡ (stretch_way device at put left rec.now out.old).out) }
@@ -84,7 +82,6 @@ fn stretch(device: Device, at: usize, put: usize, left: usize, rec: &[u8], out: 
 }
 
 // Replays whole records from where it came on, until the reply is full or the bytes are used up.
-#[tactic(auto, using(base::proofs::Tests::picks))]
 pub fn play(from: Came, sectors: &mut [u8], rec: &[u8], last: bool, out: &mut [u8]) -> Came
     requires { Ready from.device sectors.old × ((from.taken ≤ length rec.now) × (from.made ≤ length out.old)) }
     ensures { Gives (part_of last from.device sectors.old rec.now from.taken out.old from.made) result sectors.new out.old out.new }

@@ -13,7 +13,7 @@ use settled::Settled;
 use transfers::Told;
 
 // A sector to be read is reached.
-#[tactic(auto, using(base::proofs::Tests::picks), unfolding(crate::specs::Sectors::read_at, transfers::specs::Sectors::not_found_of))]
+#[tactic(auto, unfolding(crate::specs::Sectors::read_at, transfers::specs::Sectors::not_found_of))]
 fn read_at(hot: Hot, settled: Settled, run: Run, buffer: &mut [u8; 512], sectors: &[u8]) -> Hot
     requires { Memory settled.geometry settled.translation sectors.now }
     ensures { face_with result settled buffer.new ≡ read_at (face_with hot settled buffer.old) sectors.now run }
@@ -28,7 +28,7 @@ fn read_at(hot: Hot, settled: Settled, run: Run, buffer: &mut [u8; 512], sectors
 }
 
 // READ SECTOR(S) (20h, 21h).
-#[tactic(auto, using(base::proofs::Tests::picks), unfolding(crate::specs::Sectors::read_sectors_of))]
+#[tactic(auto, unfolding(crate::specs::Sectors::read_sectors_of))]
 pub fn read_sectors(hot: Hot, settled: Settled, buffer: &mut [u8; 512], sectors: &[u8]) -> Hot
     requires { Memory settled.geometry settled.translation sectors.now }
     ensures { face_with result settled buffer.new ≡ read_sectors_of (face_with hot settled buffer.old) sectors.now }
@@ -38,7 +38,7 @@ pub fn read_sectors(hot: Hot, settled: Settled, buffer: &mut [u8; 512], sectors:
 }
 
 // The last sector to be verified.
-#[tactic(auto, using(base::proofs::Tests::picks), unfolding(crate::specs::Sectors::verify_last, transfers::specs::Sectors::not_found_of))]
+#[tactic(auto, unfolding(crate::specs::Sectors::verify_last, transfers::specs::Sectors::not_found_of))]
 fn verify_last(hot: Hot, settled: Settled, at: AddressRegisters) -> Hot
     ensures { (b : List ℕ) → face_with result settled b ≡ verify_last (face_with hot settled b) at }
 {
@@ -54,7 +54,7 @@ fn verify_last(hot: Hot, settled: Settled, at: AddressRegisters) -> Hot
 }
 
 // READ VERIFY SECTOR(S) (40h, 41h).
-#[tactic(auto, using(base::proofs::Tests::picks), unfolding(crate::specs::Sectors::verify_sectors_of, transfers::specs::Sectors::not_found_of))]
+#[tactic(auto, unfolding(crate::specs::Sectors::verify_sectors_of, transfers::specs::Sectors::not_found_of))]
 pub fn verify_sectors(hot: Hot, settled: Settled) -> Hot
     ensures { (b : List ℕ) → face_with result settled b ≡ verify_sectors_of (face_with hot settled b) }
 {
@@ -74,7 +74,7 @@ pub fn verify_sectors(hot: Hot, settled: Settled) -> Hot
 }
 
 // The last word of a sector has been read. A read that ends well raises nothing.
-#[tactic(auto, using(base::proofs::Tests::picks), unfolding(crate::specs::Words::read_next_of))]
+#[tactic(auto, unfolding(crate::specs::Words::read_next_of))]
 pub fn read_next(
     hot: Hot,
     settled: Settled,
@@ -95,7 +95,7 @@ pub fn read_next(
 }
 
 // A word of a sector has been read.
-#[tactic(auto, using(base::proofs::Tests::picks), unfolding(crate::specs::Words::read_run_of))]
+#[tactic(auto, unfolding(crate::specs::Words::read_run_of))]
 fn read_run(face: Face, run: Run, sectors: &[u8]) -> Face
     requires { Memory face.settled.geometry face.settled.translation sectors.now }
     ensures { result ≡ read_run_of face sectors.now run }
@@ -111,7 +111,6 @@ fn read_run(face: Face, run: Run, sectors: &[u8]) -> Face
 }
 
 // A data word of a sector is read.
-#[tactic(auto, using(base::proofs::Tests::picks))]
 fn sector_word(face: Face, run: Run, sectors: &[u8]) -> Told
     requires { Memory face.settled.geometry face.settled.translation sectors.now }
     ensures { result ≡ sector_word face sectors.now run }
@@ -122,7 +121,7 @@ fn sector_word(face: Face, run: Run, sectors: &[u8]) -> Told
 }
 
 // A data word is read.
-#[tactic(auto, using(base::proofs::Tests::picks), unfolding(crate::specs::Words::read_word_of))]
+#[tactic(auto, unfolding(crate::specs::Words::read_word_of))]
 pub fn read_word(face: Face, sectors: &[u8]) -> Told
     requires { Memory face.settled.geometry face.settled.translation sectors.now }
     ensures { result ≡ read_word_of face sectors.now }

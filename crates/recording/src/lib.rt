@@ -39,7 +39,6 @@ pub struct Replayed {
 }
 
 // A recording without its version byte.
-#[tactic(auto, using(base::proofs::Tests::picks))]
 fn version_fault(device: Device, out: &mut [u8]) -> Came
     requires { 4 ≤ length out.old }
     ensures { (result ≡ came device Stage.Over 0 4) × (out.new ≡ sets out.old 0 version_fault) }
@@ -50,7 +49,6 @@ fn version_fault(device: Device, out: &mut [u8]) -> Came
 }
 
 // The records behind the version byte.
-#[tactic(auto, using(base::proofs::Tests::picks))]
 fn behind_version(
     device: Device,
     sectors: &mut [u8],
@@ -67,7 +65,7 @@ fn behind_version(
 }
 
 // The version byte, where there is one, and the records behind it.
-#[tactic(auto, using(base::proofs::Tests::picks), unfolding(crate::specs::Turns::turn_as, crate::specs::Turns::open_of))]
+#[tactic(auto, unfolding(crate::specs::Turns::turn_as, crate::specs::Turns::open_of))]
 fn begin(device: Device, sectors: &mut [u8], rec: &[u8], last: bool, out: &mut [u8]) -> Came
     requires { Ready device sectors.old }
     ensures { Gives (turn_as Stage.Opening last (length out.old) device sectors.old rec.now) result sectors.new out.old out.new }
@@ -89,7 +87,7 @@ fn begin(device: Device, sectors: &mut [u8], rec: &[u8], last: bool, out: &mut [
 }
 
 // How far the bytes bring a replay that stands there.
-#[tactic(auto, using(base::proofs::Tests::picks), unfolding(crate::specs::Turns::turn_as))]
+#[tactic(auto, unfolding(crate::specs::Turns::turn_as))]
 fn part(
     stage: Stage,
     device: Device,
@@ -112,7 +110,6 @@ fn part(
 }
 
 // The bytes from `from` up to `to` move to the front.
-#[tactic(auto, using(base::proofs::Tests::picks))]
 fn keep(window: &mut [u8], from: usize, to: usize)
     requires { (from ≤ to) × (to ≤ length window.old) }
     ensures { window.new ≡ sets window.old 0 (drop from (take to window.old)) }
@@ -126,7 +123,7 @@ fn keep(window: &mut [u8], from: usize, to: usize)
 }
 
 // No more bytes are held than the window has.
-#[tactic(auto, using(base::proofs::Tests::picks), unfolding(crate::specs::Turns::least_of))]
+#[tactic(auto, unfolding(crate::specs::Turns::least_of))]
 fn least(held: usize, size: usize) -> usize
     ensures { result ≡ least_of held size }
 {
@@ -138,7 +135,6 @@ fn least(held: usize, size: usize) -> usize
 
 impl Stream {
     // A replay before its first byte.
-    #[tactic(auto, using(base::proofs::Tests::picks))]
     pub fn start() -> Stream
         ensures { result ≡ start_of }
     {
@@ -148,7 +144,6 @@ impl Stream {
         }
     }
 
-    #[tactic(auto, using(base::proofs::Tests::picks))]
     fn turned_away(self, held: usize, answer: Answer) -> Turn
         ensures { result ≡ away_of self held answer }
     {
@@ -161,7 +156,6 @@ impl Stream {
     }
 
     // A turn of a device in shape over its memory.
-    #[tactic(auto, using(base::proofs::Tests::picks))]
     fn taken(
         self,
         sectors: &mut [u8],
@@ -189,7 +183,7 @@ impl Stream {
     }
 
     // One turn: the first `held` bytes of the window, into `out`; `last` where no byte comes behind them.
-    #[tactic(auto, using(base::proofs::Tests::picks), unfolding(crate::specs::Turns::turn_of))]
+    #[tactic(auto, unfolding(crate::specs::Turns::turn_of))]
     pub fn turn(
         self,
         sectors: &mut [u8],
@@ -215,7 +209,6 @@ impl Stream {
 }
 
 // The reply to a whole recording, over memory of 64 sectors that is cleared first, as far as there is room for it.
-#[tactic(auto, using(base::proofs::Tests::picks))]
 pub fn replay(rec: &[u8], sectors: &mut [u8], out: &mut [u8]) -> Replayed
     ensures { (result ≡ replayed_of rec.now sectors.old (length out.old))
         × ((sectors.new ≡ (whole_play rec.now sectors.old (length out.old)).sectors)

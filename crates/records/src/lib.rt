@@ -18,7 +18,7 @@ pub enum Found {
 }
 
 // A payload of one byte.
-#[tactic(auto, using(base::proofs::Tests::picks), unfolding(crate::specs::Records::one_byte))]
+#[tactic(auto, unfolding(crate::specs::Records::one_byte))]
 fn one_byte(kind: u8) -> Found
     ensures { result ≡ one_byte kind }
 {
@@ -38,7 +38,7 @@ fn one_byte(kind: u8) -> Found
 }
 
 // A payload of two bytes.
-#[tactic(auto, using(base::proofs::Tests::picks), unfolding(crate::specs::Records::two_bytes))]
+#[tactic(auto, unfolding(crate::specs::Records::two_bytes))]
 fn two_bytes(kind: u8, register: u8) -> Found
     ensures { result ≡ two_bytes kind register }
 {
@@ -55,7 +55,7 @@ fn big_endian(high: u8, low: u8) -> u16
 }
 
 // A payload of three bytes.
-#[tactic(auto, using(base::proofs::Tests::picks), unfolding(crate::specs::Records::three_bytes))]
+#[tactic(auto, unfolding(crate::specs::Records::three_bytes))]
 fn three_bytes(kind: u8, first: u8, second: u8) -> Found
     ensures { result ≡ three_bytes kind first second }
 {
@@ -69,7 +69,7 @@ fn three_bytes(kind: u8, first: u8, second: u8) -> Found
     Found::Malformed
 }
 
-#[tactic(auto, using(base::proofs::Tests::picks), unfolding(crate::specs::Records::length_of))]
+#[tactic(auto, unfolding(crate::specs::Records::length_of))]
 fn length_of(bytes: &[u8]) -> u16
     requires { 2 ≤ length bytes.now }
     ensures { result ≡ length_of bytes.now }
@@ -78,7 +78,7 @@ fn length_of(bytes: &[u8]) -> u16
 }
 
 // Fewer bytes than any record has.
-#[tactic(auto, using(base::proofs::Tests::picks), unfolding(crate::specs::Records::next_of))]
+#[tactic(auto, unfolding(crate::specs::Records::next_of))]
 fn short(bytes: &[u8]) -> Found
     requires { length bytes.now < 3 }
     ensures { result ≡ next_of bytes.now }
@@ -103,7 +103,7 @@ fn short(bytes: &[u8]) -> Found
 }
 
 // What the bytes start with.
-#[tactic(auto, using(base::proofs::Tests::picks), unfolding(crate::specs::Records::payload_of))]
+#[tactic(auto, unfolding(crate::specs::Records::payload_of))]
 pub fn next(bytes: &[u8]) -> Found
     ensures { result ≡ next_of bytes.now }
 {
@@ -130,7 +130,6 @@ pub fn next(bytes: &[u8]) -> Found
 }
 
 // The reply to one record, from `put` on.
-#[tactic(auto, using(base::proofs::Tests::picks))]
 pub fn reply(out: &mut [u8], put: usize, answer: u8, value: u16)
     requires { put + 5 ≤ length out.old }
     ensures { out.new ≡ sets out.old put (reply_bytes answer value) }
@@ -143,7 +142,6 @@ pub fn reply(out: &mut [u8], put: usize, answer: u8, value: u16)
 }
 
 // Answer 5, from `put` on.
-#[tactic(auto, using(base::proofs::Tests::picks))]
 pub fn fault(out: &mut [u8], put: usize)
     requires { put + 3 ≤ length out.old }
     ensures { out.new ≡ sets out.old put fault_bytes }

@@ -61,7 +61,6 @@ fn put(streams: Streams, reply: &[u8]) -> bool {
 }
 
 // One turn over the bytes held, and its reply written.
-#[tactic(auto, using(base::proofs::Tests::picks))]
 fn turn(
     streams: Streams,
     stream: Stream,
@@ -106,7 +105,6 @@ fn round(
 }
 
 // Rounds until the replay is over; the count only bounds the loop, and no recording uses it up.
-#[tactic(auto, using(base::proofs::Tests::picks))]
 fn run(streams: Streams, sectors: &mut [u8], window: &mut [u8], out: &mut [u8]) {
     let mut stream = Stream::start();
     let mut held = 0;

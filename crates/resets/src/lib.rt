@@ -11,7 +11,6 @@ use lock::Purpose;
 use settled::Settled;
 
 // What the drop of a password block clears besides the buffer.
-#[tactic(auto, using(base::proofs::Tests::picks))]
 fn drop_purpose(settled: Settled, purpose: Purpose) -> Settled
     ensures { (h : Hot) → (b : List ℕ) → face_with h result b ≡ drop_purpose (face_with h settled b) purpose }
 {
@@ -24,7 +23,6 @@ fn drop_purpose(settled: Settled, purpose: Purpose) -> Settled
 }
 
 // What the drop of a password block clears.
-#[tactic(auto, using(base::proofs::Tests::picks))]
 fn drop_block(settled: Settled, block: PasswordBlock, buffer: &mut [u8; 512]) -> Settled
     ensures { (h : Hot) → face_with h result buffer.new ≡ drop_block (face_with h settled buffer.old) block }
 {
@@ -34,7 +32,6 @@ fn drop_block(settled: Settled, block: PasswordBlock, buffer: &mut [u8; 512]) ->
 }
 
 // What the drop of this transfer clears.
-#[tactic(auto, using(base::proofs::Tests::picks))]
 fn drops(settled: Settled, transfer: Transfer, buffer: &mut [u8; 512]) -> Settled
     ensures { (h : Hot) → face_with h result buffer.new ≡ drop_as (face_with h settled buffer.old) transfer }
 {
@@ -49,7 +46,7 @@ fn drops(settled: Settled, transfer: Transfer, buffer: &mut [u8; 512]) -> Settle
 }
 
 // A Command write drops the transfer.
-#[tactic(auto, using(base::proofs::Tests::picks), unfolding(crate::specs::Resets::dropped_of))]
+#[tactic(auto, unfolding(crate::specs::Resets::dropped_of))]
 pub fn drop_transfer(hot: Hot, settled: Settled, buffer: &mut [u8; 512]) -> Front
     ensures { face_with result.hot result.settled buffer.new ≡ dropped_of (face_with hot settled buffer.old) }
 {
@@ -63,7 +60,6 @@ pub fn drop_transfer(hot: Hot, settled: Settled, buffer: &mut [u8; 512]) -> Fron
 }
 
 // Power-on and hardware reset, whatever the registers held.
-#[tactic(auto, using(base::proofs::Tests::picks))]
 pub fn powered_on(settled: Settled, buffer: &mut [u8; 512]) -> Front
     ensures { (h : Hot) → face_with result.hot result.settled buffer.new ≡ powered_on_face (face_with h settled buffer.old) }
 {
@@ -74,7 +70,7 @@ pub fn powered_on(settled: Settled, buffer: &mut [u8; 512]) -> Front
 }
 
 // Device Control bit 2.
-#[tactic(auto, using(base::proofs::Tests::picks), unfolding(crate::specs::Control::srst_of))]
+#[tactic(auto, unfolding(crate::specs::Control::srst_of))]
 fn srst(v: u8) -> bool
     ensures { result ≡ srst_of v }
 {
@@ -82,7 +78,7 @@ fn srst(v: u8) -> bool
 }
 
 // Device Control bit 1.
-#[tactic(auto, using(base::proofs::Tests::picks), unfolding(crate::specs::Control::nien_of))]
+#[tactic(auto, unfolding(crate::specs::Control::nien_of))]
 fn nien(v: u8) -> bool
     ensures { result ≡ nien_of v }
 {
@@ -90,7 +86,6 @@ fn nien(v: u8) -> bool
 }
 
 // Registers and signals while SRST is held.
-#[tactic(auto, using(base::proofs::Tests::picks))]
 fn held(masked: bool) -> Hot
     ensures { result ≡ held_hot masked }
 {
@@ -110,7 +105,6 @@ fn released(mut hot: Hot, masked: bool) -> Hot
 }
 
 // Setting SRST, whatever the registers held.
-#[tactic(auto, using(base::proofs::Tests::picks))]
 fn soft_reset(settled: Settled, masked: bool, buffer: &mut [u8; 512]) -> Front
     ensures { (h : Hot) → face_with result.hot result.settled buffer.new ≡ soft_reset_of (face_with h settled buffer.old) masked }
 {
@@ -121,7 +115,7 @@ fn soft_reset(settled: Settled, masked: bool, buffer: &mut [u8; 512]) -> Front
 }
 
 // A write to Device Control.
-#[tactic(auto, using(base::proofs::Tests::picks), unfolding(crate::specs::Control::control_of))]
+#[tactic(auto, unfolding(crate::specs::Control::control_of))]
 pub fn control(hot: Hot, settled: Settled, v: u8, buffer: &mut [u8; 512]) -> Front
     ensures { face_with result.hot result.settled buffer.new ≡ control_of (face_with hot settled buffer.old) v }
 {

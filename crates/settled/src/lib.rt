@@ -32,7 +32,6 @@ fn plain(byte: u8) -> bool
 }
 
 // Whether each byte is from 20h to 7Eh. All are looked at, which lets several be looked at at once.
-#[tactic(auto, using(base::proofs::Tests::picks))]
 fn printable(text: &[u8]) -> bool
     ensures { result ≡ printable text.now }
 {
@@ -47,7 +46,7 @@ fn printable(text: &[u8]) -> bool
 
 impl Identity {
     // Whether serial, firmware and model are printable.
-    #[tactic(auto, using(base::proofs::Tests::picks), unfolding(crate::specs::Identity::identity_fits))]
+    #[tactic(auto, unfolding(crate::specs::Identity::identity_fits))]
     pub fn fits(self) -> bool
         ensures { result ≡ identity_fits self }
     {
@@ -80,7 +79,7 @@ impl Settled {
     }
 
     // The clauses of answer 2 on geometry, identity, translation, attempts and lock.
-    #[tactic(auto, using(base::proofs::Tests::picks), unfolding(crate::specs::Settled::settled_fits))]
+    #[tactic(auto, unfolding(crate::specs::Settled::settled_fits))]
     pub fn fits(self) -> bool
         ensures { result ≡ settled_fits self }
     {
@@ -101,7 +100,6 @@ impl Settled {
     }
 
     // The preparation ended.
-    #[tactic(auto, using(base::proofs::Tests::picks))]
     pub fn unprepare(self) -> Self
         ensures { result ≡ settled_unprepared self }
     {
@@ -110,7 +108,6 @@ impl Settled {
     }
 
     // Power-on and hardware reset.
-    #[tactic(auto, using(base::proofs::Tests::picks))]
     pub fn power_on(self) -> Self
         ensures { result ≡ settled_powered_on self }
     {
@@ -121,7 +118,6 @@ impl Settled {
     }
 
     // Software reset.
-    #[tactic(auto, using(base::proofs::Tests::picks))]
     pub fn reset(self) -> Self
         ensures { result ≡ settled_reset self }
     {
@@ -130,7 +126,7 @@ impl Settled {
     }
 }
 
-#[tactic(auto, using(base::proofs::Tests::picks), unfolding(crate::specs::Setup::zero_identity))]
+#[tactic(auto, unfolding(crate::specs::Setup::zero_identity))]
 fn zero_identity() -> Identity
     ensures { result ≡ zero_identity }
 {
@@ -158,7 +154,6 @@ fn zero_security() -> Security
 }
 
 // The settled part of a new disk, before its power-on.
-#[tactic(auto, using(base::proofs::Tests::picks))]
 pub fn fresh(geometry: Geometry, identity: Identity) -> Settled
     ensures { result ≡ fresh_settled geometry identity }
 {
@@ -173,7 +168,6 @@ pub fn fresh(geometry: Geometry, identity: Identity) -> Settled
 }
 
 // The settled part of a record all zero.
-#[tactic(auto, using(base::proofs::Tests::picks))]
 pub fn zero_settled() -> Settled
     ensures { result ≡ zero_settled }
 {

@@ -10,7 +10,7 @@ use lock::{Purpose, Security};
 use settled::Settled;
 
 // A sector transfer: not while locked, and its current sector's address names a sector.
-#[tactic(auto, using(base::proofs::Tests::picks), unfolding(crate::specs::Shape::run_fits))]
+#[tactic(auto, unfolding(crate::specs::Shape::run_fits))]
 fn run_fits(settled: Settled, run: Run) -> bool
     ensures { result ≡ run_fits settled run }
 {
@@ -28,7 +28,7 @@ fn run_fits(settled: Settled, run: Run) -> bool
 
 // A password transfer: not while frozen; SET and DISABLE not while locked; UNLOCK and ERASE UNIT not without attempts; ERASE UNIT
 // not without preparation.
-#[tactic(auto, using(base::proofs::Tests::picks), unfolding(crate::specs::Shape::password_fits))]
+#[tactic(auto, unfolding(crate::specs::Shape::password_fits))]
 fn password_fits(security: Security, purpose: Purpose) -> bool
     ensures { result ≡ password_fits security purpose }
 {
@@ -44,7 +44,6 @@ fn password_fits(security: Security, purpose: Purpose) -> bool
     }
 }
 
-#[tactic(auto, using(base::proofs::Tests::picks))]
 fn transfer_fits(settled: Settled, transfer: Transfer) -> bool
     ensures { result ≡ transfer_fits settled transfer }
 {
@@ -63,7 +62,7 @@ fn transfer_fits(settled: Settled, transfer: Transfer) -> bool
 }
 
 // No transfer while reset is held.
-#[tactic(auto, using(base::proofs::Tests::picks), unfolding(crate::specs::Shape::held_fits))]
+#[tactic(auto, unfolding(crate::specs::Shape::held_fits))]
 fn held_fits(hot: Hot) -> bool
     ensures { result ≡ held_fits hot }
 {
@@ -74,7 +73,7 @@ fn held_fits(hot: Hot) -> bool
 }
 
 // The clauses of answer 2, but for DEV.
-#[tactic(auto, using(base::proofs::Tests::picks), unfolding(crate::specs::Shape::parts_fit))]
+#[tactic(auto, unfolding(crate::specs::Shape::parts_fit))]
 pub fn fits(settled: Settled, hot: Hot) -> bool
     ensures { result ≡ parts_fit settled hot }
 {

@@ -15,7 +15,6 @@ use face::{Action, Answer, Hot, Quick, Seen};
 use lent::Reply;
 
 // What the fast path settled: only the hot part goes back.
-#[tactic(auto, using(base::proofs::Tests::picks))]
 fn settle(state: &mut [u8], seen: Seen) -> Reply
     requires { length state.old ≡ 163 }
     ensures { (result ≡ host_reply (number_of seen.answer) (value_of seen.answer seen.value)) × (state.new ≡ sets state.old 0 (hot_bytes seen.hot)) }
@@ -28,7 +27,6 @@ fn settle(state: &mut [u8], seen: Seen) -> Reply
 }
 
 // A word read as a bulk of one: at a block's end it takes no more than the hot part.
-#[tactic(auto, using(base::proofs::Tests::picks))]
 fn read_one(state: &mut [u8], buffer: &mut [u8; 512], sectors: &[u8]) -> Reply
     requires { Admitted state.old buffer.old sectors.now }
     ensures { GivesBack (lent_of (alone_of (device_stored state.old buffer.old) sectors.now Action.ReadWord)) result state.new buffer.new sectors.now }
@@ -42,7 +40,6 @@ fn read_one(state: &mut [u8], buffer: &mut [u8; 512], sectors: &[u8]) -> Reply
 }
 
 // A word written as a bulk of one.
-#[tactic(auto, using(base::proofs::Tests::picks))]
 fn write_one(state: &mut [u8], buffer: &mut [u8; 512], w: u16, sectors: &mut [u8]) -> Reply
     requires { Admitted state.old buffer.old sectors.old }
     ensures { GivesBack (lent_of (alone_of (device_stored state.old buffer.old) sectors.old (Action.WriteWord w))) result state.new buffer.new sectors.new }
@@ -63,7 +60,6 @@ fn hidden() -> Reply
 }
 
 // A Command over hot and settled part, with the buffer where it is lent.
-#[tactic(auto, using(base::proofs::Tests::picks))]
 fn command(state: &mut [u8], buffer: &mut [u8; 512], code: u8, sectors: &[u8]) -> Reply
     requires { Admitted state.old buffer.old sectors.now }
     ensures { GivesBack (lent_of (alone_of (device_stored state.old buffer.old) sectors.now (Action.WriteRegister 7 code))) result state.new buffer.new sectors.now }
@@ -79,7 +75,6 @@ fn command(state: &mut [u8], buffer: &mut [u8; 512], code: u8, sectors: &[u8]) -
 }
 
 // Device Control, whatever the sectors hold.
-#[tactic(auto, using(base::proofs::Tests::picks))]
 fn control(state: &mut [u8], buffer: &mut [u8; 512], v: u8) -> Reply
     requires { formed_of state.old ≡ true }
     ensures { (m : List ℕ) → GivesBack (lent_of (alone_of (device_stored state.old buffer.old) m (Action.WriteRegister 8 v))) result state.new buffer.new m }
@@ -92,7 +87,6 @@ fn control(state: &mut [u8], buffer: &mut [u8; 512], v: u8) -> Reply
 }
 
 // Power-on and hardware reset, whatever the sectors hold.
-#[tactic(auto, using(base::proofs::Tests::picks))]
 fn power_on(state: &mut [u8], buffer: &mut [u8; 512]) -> Reply
     requires { formed_of state.old ≡ true }
     ensures { (m : List ℕ) → GivesBack (lent_of (alone_of (device_stored state.old buffer.old) m Action.PowerOn)) result state.new buffer.new m }
@@ -104,7 +98,6 @@ fn power_on(state: &mut [u8], buffer: &mut [u8; 512]) -> Reply
 }
 
 // A write to a register that the fast path leaves open.
-#[tactic(auto, using(base::proofs::Tests::picks))]
 fn write_open(state: &mut [u8], buffer: &mut [u8; 512], n: u8, v: u8, sectors: &[u8]) -> Reply
     requires { Admitted state.old buffer.old sectors.now × (within 1 6 n ≡ false) }
     ensures { GivesBack (lent_of (alone_of (device_stored state.old buffer.old) sectors.now (Action.WriteRegister n v))) result state.new buffer.new sectors.now }
@@ -119,7 +112,6 @@ fn write_open(state: &mut [u8], buffer: &mut [u8; 512], n: u8, v: u8, sectors: &
 }
 
 // An action that the fast path leaves open. Of reads of registers these are the ones that DEV hides; the line it never leaves open.
-#[tactic(auto, using(base::proofs::Tests::picks))]
 fn slow(state: &mut [u8], buffer: &mut [u8; 512], action: Action, sectors: &mut [u8]) -> Reply
     requires { Admitted state.old buffer.old sectors.old × (quick_alone (hot_stored state.old) buffer.old action ≡ Quick.Slow) }
     ensures { GivesBack (lent_of (alone_of (device_stored state.old buffer.old) sectors.old action)) result state.new buffer.new sectors.new }
@@ -136,7 +128,6 @@ fn slow(state: &mut [u8], buffer: &mut [u8; 512], action: Action, sectors: &mut 
 }
 
 // An action on a device in shape over its memory.
-#[tactic(auto, using(base::proofs::Tests::picks))]
 fn step(state: &mut [u8], buffer: &mut [u8; 512], action: Action, sectors: &mut [u8]) -> Reply
     requires { Admitted state.old buffer.old sectors.old }
     ensures { GivesBack (lent_of (alone_of (device_stored state.old buffer.old) sectors.old action)) result state.new buffer.new sectors.new }
@@ -149,7 +140,6 @@ fn step(state: &mut [u8], buffer: &mut [u8; 512], action: Action, sectors: &mut 
 }
 
 // Any host action on any lent bytes over any memory.
-#[tactic(auto, using(base::proofs::Tests::picks))]
 pub fn host(state: &mut [u8], buffer: &mut [u8; 512], action: Action, sectors: &mut [u8]) -> Reply
     ensures { GivesBack (lent_step state.old buffer.old sectors.old action) result state.new buffer.new sectors.new }
 {
@@ -161,7 +151,6 @@ pub fn host(state: &mut [u8], buffer: &mut [u8; 512], action: Action, sectors: &
 }
 
 // The same for an action that the fast path never settles, so that it is not asked.
-#[tactic(auto, using(base::proofs::Tests::picks))]
 pub fn rare(state: &mut [u8], buffer: &mut [u8; 512], action: Action, sectors: &mut [u8]) -> Reply
     requires { (h : Hot) → (b : List ℕ) → quick_alone h b action ≡ Quick.Slow }
     ensures { GivesBack (lent_step state.old buffer.old sectors.old action) result state.new buffer.new sectors.new }
@@ -174,7 +163,6 @@ pub fn rare(state: &mut [u8], buffer: &mut [u8; 512], action: Action, sectors: &
 }
 
 // A register is written. The fast path settles no Command, so that it is not asked.
-#[tactic(auto, using(base::proofs::Tests::picks))]
 pub fn write_register(
     state: &mut [u8],
     buffer: &mut [u8; 512],

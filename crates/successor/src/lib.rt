@@ -19,14 +19,14 @@ fn with_lba(mut registers: AddressRegisters, n: u32) -> AddressRegisters
     registers
 }
 
-#[tactic(auto, using(base::proofs::Tests::picks), unfolding(address::specs::Registers::lba_of, address::specs::Registers::head_of, crate::specs::Successor::lba_successor))]
+#[tactic(auto, unfolding(address::specs::Registers::lba_of, address::specs::Registers::head_of, crate::specs::Successor::lba_successor))]
 fn lba_successor(registers: AddressRegisters) -> AddressRegisters
     ensures { result ≡ lba_successor registers }
 {
     with_lba(registers, registers.lba() + 1)
 }
 
-#[tactic(auto, using(base::proofs::Tests::picks), unfolding(address::specs::Registers::head_of, crate::specs::Successor::chs_successor))]
+#[tactic(auto, unfolding(address::specs::Registers::head_of, crate::specs::Successor::chs_successor))]
 fn chs_successor(mut registers: AddressRegisters, t: Translation) -> AddressRegisters
     ensures { result ≡ chs_successor t registers }
 {
@@ -44,7 +44,7 @@ fn chs_successor(mut registers: AddressRegisters, t: Translation) -> AddressRegi
 }
 
 // The registers of the next address, good or bad.
-#[tactic(auto, using(base::proofs::Tests::picks), unfolding(crate::specs::Successor::successor_of))]
+#[tactic(auto, unfolding(crate::specs::Successor::successor_of))]
 pub fn successor(registers: AddressRegisters, t: Translation) -> AddressRegisters
     ensures { result ≡ successor_of t registers }
 {

@@ -98,7 +98,6 @@ pub extern "C" fn thinnarom_write_words(
 }
 
 #[unsafe(no_mangle)]
-#[tactic(auto, using(base::proofs::Tests::picks))]
 pub extern "C" fn thinnarom_hardware_reset(
     state: &mut [u8],
     buffer: &mut [u8; 512],
@@ -110,7 +109,6 @@ pub extern "C" fn thinnarom_hardware_reset(
 }
 
 #[unsafe(no_mangle)]
-#[tactic(auto, using(base::proofs::Tests::picks))]
 pub extern "C" fn thinnarom_power_on(
     state: &mut [u8],
     buffer: &mut [u8; 512],

@@ -38,7 +38,7 @@ pub fn located(settled: Settled, at: AddressRegisters) -> Address
 }
 
 // How many sectors come after the first: Sector Count 0 is 256.
-#[tactic(auto, using(base::proofs::Tests::picks), unfolding(crate::specs::Sectors::after_of))]
+#[tactic(auto, unfolding(crate::specs::Sectors::after_of))]
 pub fn after_first(count: u8) -> u8
     ensures { result ≡ after_of count }
 {
@@ -46,7 +46,6 @@ pub fn after_first(count: u8) -> u8
 }
 
 // The run of a command's first sector.
-#[tactic(auto, using(base::proofs::Tests::picks))]
 pub fn first_run(regs: Registers) -> Run
     ensures { result ≡ first_run regs }
 {
@@ -59,7 +58,6 @@ pub fn first_run(regs: Registers) -> Run
 }
 
 // The next sector's run.
-#[tactic(auto, using(base::proofs::Tests::picks))]
 pub fn next_run(run: Run, translation: Translation) -> Run
     requires { 0 < run.after }
     ensures { result ≡ next_run run translation }
@@ -74,7 +72,6 @@ pub fn next_run(run: Run, translation: Translation) -> Run
 }
 
 // A command aborts.
-#[tactic(auto, using(base::proofs::Tests::picks))]
 pub fn abort(face: Face) -> Face
     ensures { result ≡ abort_face face }
 {
@@ -83,7 +80,6 @@ pub fn abort(face: Face) -> Face
 }
 
 // A command ends well.
-#[tactic(auto, using(base::proofs::Tests::picks))]
 pub fn finish(face: Face) -> Face
     ensures { result ≡ finish_face face }
 {
@@ -92,7 +88,6 @@ pub fn finish(face: Face) -> Face
 }
 
 // A bad address ends a sector command: the address, and the sectors left including it, 256 shown as 00h.
-#[tactic(auto, using(base::proofs::Tests::picks))]
 pub fn missed(hot: Hot, run: Run) -> Hot
     ensures { result ≡ missed_of hot run }
 {
@@ -109,7 +104,7 @@ pub fn no_transfer(face: Face) -> Told
 }
 
 // A data word of READ BUFFER or IDENTIFY has been read.
-#[tactic(auto, using(base::proofs::Tests::picks), unfolding(crate::specs::Words::read_buffer_word))]
+#[tactic(auto, unfolding(crate::specs::Words::read_buffer_word))]
 fn read_buffer_word(face: Face, word: u8) -> Face
     ensures { result ≡ read_buffer_word face word }
 {
@@ -121,7 +116,6 @@ fn read_buffer_word(face: Face, word: u8) -> Face
 }
 
 // A data word of READ BUFFER or IDENTIFY is read.
-#[tactic(auto, using(base::proofs::Tests::picks))]
 pub fn buffer_word(face: Face, n: u8) -> Told
     ensures { result ≡ buffer_word face n }
 {
@@ -131,7 +125,6 @@ pub fn buffer_word(face: Face, n: u8) -> Told
 }
 
 // A word arrives in the buffer.
-#[tactic(auto, using(base::proofs::Tests::picks))]
 pub fn word_in(face: Face, n: u8, w: u16) -> Face
     ensures { result ≡ word_in face n w }
 {
@@ -141,7 +134,7 @@ pub fn word_in(face: Face, n: u8, w: u16) -> Face
 }
 
 // A data word of WRITE BUFFER is written.
-#[tactic(auto, using(base::proofs::Tests::picks), unfolding(crate::specs::Words::write_buffer_word))]
+#[tactic(auto, unfolding(crate::specs::Words::write_buffer_word))]
 pub fn write_buffer_word(face: Face, n: u8, w: u16) -> Face
     ensures { result ≡ write_buffer_word face n w }
 {

@@ -30,7 +30,6 @@ fn least(a: usize, b: usize) -> usize
 }
 
 // Bytes of one slice, from `at` on, become those of another, from `put` on.
-#[tactic(auto, using(base::proofs::Tests::picks))]
 fn copy(from: &[u8], at: usize, to: &mut [u8], put: usize, size: usize)
     requires { Reach from.now at to.old put size }
     ensures { Moved from.now at to.old put size to.new }
@@ -50,7 +49,7 @@ fn placed(hot: Hot, word: u8) -> Hot
 }
 
 // The last word of a block has been read.
-#[tactic(auto, using(base::proofs::Tests::picks), unfolding(reading::specs::Words::read_run_of, reading::specs::Words::read_next_of, transfers::specs::Words::read_buffer_word))]
+#[tactic(auto, unfolding(reading::specs::Words::read_run_of, reading::specs::Words::read_next_of, transfers::specs::Words::read_buffer_word))]
 fn read_last(hot: Hot, settled: Settled, buffer: &mut [u8; 512], sectors: &[u8]) -> Hot
     requires { Memory settled.geometry settled.translation sectors.now }
     ensures { face_with result settled buffer.new ≡ (read_word_as (face_with hot settled buffer.old) sectors.now (placed_at hot.transfer 255)).face }
@@ -67,7 +66,7 @@ fn read_last(hot: Hot, settled: Settled, buffer: &mut [u8; 512], sectors: &[u8])
 }
 
 // Words up to that place have been read.
-#[tactic(auto, using(base::proofs::Tests::picks), unfolding(crate::specs::Blocks::read_up_to))]
+#[tactic(auto, unfolding(crate::specs::Blocks::read_up_to))]
 fn read_to(hot: Hot, place: usize, settled: Settled, buffer: &mut [u8; 512], sectors: &[u8]) -> Hot
     requires { Memory settled.geometry settled.translation sectors.now }
     ensures { face_with result settled buffer.new ≡ read_up_to (face_with hot settled buffer.old) sectors.now place }
@@ -79,7 +78,6 @@ fn read_to(hot: Hot, place: usize, settled: Settled, buffer: &mut [u8; 512], sec
 }
 
 // Words are read, as many as `out` has room for, up to the first that is turned away.
-#[tactic(auto, using(base::proofs::Tests::picks))]
 pub fn read_words(
     hot: Hot,
     settled: Settled,
@@ -123,7 +121,7 @@ fn takes_to(transfer: Transfer) -> usize
 }
 
 // Words up to that place have arrived.
-#[tactic(auto, using(base::proofs::Tests::picks), unfolding(crate::specs::Blocks::written_up_to, crate::specs::Blocks::stored_up_to))]
+#[tactic(auto, unfolding(crate::specs::Blocks::written_up_to, crate::specs::Blocks::stored_up_to))]
 fn write_to(hot: Hot, place: usize, settled: Settled, buffer: &[u8; 512], sectors: &mut [u8]) -> Hot
     requires { Memory settled.geometry settled.translation sectors.old }
     ensures { (face_with result settled buffer.now ≡ written_up_to (face_with hot settled buffer.now) place) × (sectors.new ≡ stored_up_to (face_with hot settled buffer.now) sectors.old place) }
@@ -143,7 +141,6 @@ fn write_to(hot: Hot, place: usize, settled: Settled, buffer: &[u8; 512], sector
 }
 
 // Words are written, up to the first that is turned away or is a password block's last.
-#[tactic(auto, using(base::proofs::Tests::picks))]
 pub fn write_words(
     hot: Hot,
     settled: Settled,

@@ -12,7 +12,7 @@ use face::{Face, Hot, Run, Transfer};
 use settled::Settled;
 
 // The first sector to be written is reached.
-#[tactic(auto, using(base::proofs::Tests::picks), unfolding(crate::specs::Sectors::write_at, transfers::specs::Sectors::not_found_of))]
+#[tactic(auto, unfolding(crate::specs::Sectors::write_at, transfers::specs::Sectors::not_found_of))]
 fn write_at(hot: Hot, settled: Settled, run: Run) -> Hot
     ensures { (b : List ℕ) → face_with result settled b ≡ write_at (face_with hot settled b) run }
 {
@@ -24,7 +24,7 @@ fn write_at(hot: Hot, settled: Settled, run: Run) -> Hot
 }
 
 // WRITE SECTOR(S) (30h, 31h).
-#[tactic(auto, using(base::proofs::Tests::picks), unfolding(crate::specs::Sectors::write_sectors_of))]
+#[tactic(auto, unfolding(crate::specs::Sectors::write_sectors_of))]
 pub fn write_sectors(hot: Hot, settled: Settled) -> Hot
     ensures { (b : List ℕ) → face_with result settled b ≡ write_sectors_of (face_with hot settled b) }
 {
@@ -33,7 +33,7 @@ pub fn write_sectors(hot: Hot, settled: Settled) -> Hot
 }
 
 // A sector to be written after the first is reached.
-#[tactic(auto, using(base::proofs::Tests::picks), unfolding(crate::specs::Words::want_at, transfers::specs::Sectors::not_found_of))]
+#[tactic(auto, unfolding(crate::specs::Words::want_at, transfers::specs::Sectors::not_found_of))]
 fn want_at(hot: Hot, settled: Settled, run: Run) -> Hot
     ensures { (b : List ℕ) → face_with result settled b ≡ want_at (face_with hot settled b) run }
 {
@@ -45,7 +45,7 @@ fn want_at(hot: Hot, settled: Settled, run: Run) -> Hot
 }
 
 // A sector has been stored.
-#[tactic(auto, using(base::proofs::Tests::picks), unfolding(crate::specs::Words::write_next_of))]
+#[tactic(auto, unfolding(crate::specs::Words::write_next_of))]
 fn write_next(hot: Hot, settled: Settled, run: Run) -> Hot
     ensures { (b : List ℕ) → face_with result settled b ≡ write_next_of (face_with hot settled b) run }
 {
@@ -58,7 +58,7 @@ fn write_next(hot: Hot, settled: Settled, run: Run) -> Hot
 }
 
 // The last word of a sector has arrived: it is stored.
-#[tactic(auto, using(base::proofs::Tests::picks), unfolding(crate::specs::Words::write_last_of, crate::specs::Words::write_last_sectors, transfers::specs::Sectors::not_found_of))]
+#[tactic(auto, unfolding(crate::specs::Words::write_last_of, crate::specs::Words::write_last_sectors, transfers::specs::Sectors::not_found_of))]
 pub fn write_last(
     hot: Hot,
     settled: Settled,
@@ -79,7 +79,7 @@ pub fn write_last(
 }
 
 // A data word of a sector is written.
-#[tactic(auto, using(base::proofs::Tests::picks), unfolding(crate::specs::Words::write_run_of, crate::specs::Words::write_run_sectors))]
+#[tactic(auto, unfolding(crate::specs::Words::write_run_of, crate::specs::Words::write_run_sectors))]
 pub fn write_run(face: Face, run: Run, w: u16, sectors: &mut [u8]) -> Face
     requires { Memory face.settled.geometry face.settled.translation sectors.old }
     ensures { (result ≡ write_run_of face run w) × (sectors.new ≡ write_run_sectors face sectors.old run w) }
