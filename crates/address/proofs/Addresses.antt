@@ -7,7 +7,7 @@ use mathlib.Core.Path.{◌≡◌, refl, sym, ap}
 use lib.Dec.{ltb}
 use borrow.Author.Tests.{lt-ltb, le-ltb, ltb-true}
 use Rattle.base.specs.Choice.{pick, within}
-use Rattle.base.proofs.Tests.{zero≢one, within_low, within_high, within_true}
+use Rattle.base.proofs.Tests.{within_low, within_high, within_true}
 use Rattle.geometry.specs.Geometry.{capacity_of}
 use Rattle.geometry.specs.Translation.{translation_allowed, product_of}
 use Rattle.geometry.specs.declared.Geometry.{Geometry}
@@ -24,7 +24,7 @@ use Rattle.address.proofs.Chs.{ChsAt, chs_number_at, chs_below}
 -- a choice that could have faulted and names a sector was made by a test that held
 named : (b : Bool) (x : Address) (a : Sector) → pick b x Faults ≡ Names a → (b ≡ true) × (x ≡ Names a)
 named true x a e = (refl, e)
-named false x a e = absurd (zero≢one (cc))
+named false x a e = cc
 
 numbered : (n : ℕ) (a : Sector) → names n ≡ Names a → n ≡ a.number
 numbered n a e = let s : record { number = n } ≡ a = cc in ap (λ (x : Sector). x.number) s

@@ -1,4 +1,5 @@
 -- Numbers 1 to 6 and 11 of document 01, over the definitions, as a single list.
+use Rattle.std.specs.Prelude.{Some}
 use mathlib.Core.Bool.{false}
 use mathlib.Core.Path.{◌≡◌, refl}
 use Prim.Native.Nat.{ℕ}
@@ -6,7 +7,6 @@ use Rattle.base.specs.Choice.{within}
 use Rattle.geometry.specs.Geometry.{geometry_of, capacity_of}
 use Rattle.geometry.specs.Translation.{factory_of, cylinders_for, initialized_of}
 use Rattle.geometry.specs.declared.Geometry.{Geometry}
-use Rattle.geometry.specs.declared.Initialized.TheVariants.{To}
 use Rattle.address.specs.Registers.{lba_selected, lba_of, cylinder_of, head_of}
 use Rattle.address.specs.Address.{names, lba_address, chs_number, chs_address, address_of}
 use Rattle.address.specs.declared.AddressRegisters.{AddressRegisters}
@@ -32,7 +32,7 @@ pub record Numbers : Type 0 where
   pub number4 : at_chs 4 0 1 ≡ Faults
   pub number5 : (r : AddressRegisters) → lba_selected r ≡ false → r.sector ≡ 0 → address_of small (factory_of small) r ≡ Faults
   pub number6 : at_lba 64 ≡ Faults
-  pub number11 : initialized_of small 8 0 ≡ To (record { cylinders = 8; heads = 1; sectors = 8 })
+  pub number11 : initialized_of small 8 0 ≡ Some (record { cylinders = 8; heads = 1; sectors = 8 })
 
 pub numbers : Numbers
 unfolding capacity_of address_of lba_address chs_address chs_number lba_selected lba_of cylinder_of head_of within initialized_of cylinders_for

@@ -8,7 +8,7 @@ ghost use Rattle.address.specs.Address.{lba_address, chs_address, address_of};
 use geometry::{Geometry, Translation};
 
 // Sector Number (3), Cylinder Low (4), Cylinder High (5), and all eight bits of Device/Head (6).
-#[derive(Clone, Copy)]
+#[derive(Clone, Copy, Default)]
 pub struct AddressRegisters {
     pub sector: u8,
     pub low: u8,
@@ -22,7 +22,7 @@ pub struct Sector {
     pub number: u32,
 }
 
-// Either an address names a sector or it faults (IDNF).
+// Either an address names a sector or it faults (IDNF): an enum of its own, the form that document 01 names (docs/DECISIONS.md, 2).
 #[derive(Clone, Copy)]
 pub enum Address {
     Names(Sector),
@@ -43,10 +43,7 @@ impl AddressRegisters {
     pub fn lba(self) -> u32
         ensures { result ≡ lba_of self }
     {
-        (self.sector as u32)
-            + 256 * (self.low as u32)
-            + 65536 * (self.high as u32)
-            + 16777216 * ((self.head % 16) as u32)
+        u32::from_le_bytes([self.sector, self.low, self.high, self.head_number()])
     }
 
     // Cylinder Low and Cylinder High.
@@ -54,7 +51,7 @@ impl AddressRegisters {
     pub fn cylinder(self) -> u16
         ensures { result ≡ cylinder_of self }
     {
-        (self.low as u16) + 256 * (self.high as u16)
+        u16::from_le_bytes([self.low, self.high])
     }
 
     // The head nibble.
@@ -66,20 +63,21 @@ impl AddressRegisters {
     }
 
     // The lowest 16 bits of c as cylinder.
-    pub fn with_cylinder(mut self, c: u32) -> Self
+    pub fn with_cylinder(self, c: u32) -> Self
         ensures { result ≡ with_cylinder self c }
     {
-        self.low = (c % 256) as u8;
-        self.high = (c / 256 % 256) as u8;
-        self
+        let [low, high, ..] = c.to_le_bytes();
+        AddressRegisters { low, high, ..self }
     }
 
     // The lowest 4 bits of h as head nibble; the high nibble of Device/Head stays.
-    pub fn with_head(mut self, h: u8) -> Self
+    pub fn with_head(self, h: u8) -> Self
         ensures { result ≡ with_head self h }
     {
-        self.head = self.head / 16 * 16 + h % 16;
-        self
+        AddressRegisters {
+            head: self.head / 16 * 16 + h % 16,
+            ..self
+        }
     }
 
     #[tactic(auto, unfolding(crate::specs::Address::lba_address))]
@@ -100,16 +98,10 @@ impl AddressRegisters {
     {
         let c = self.cylinder();
         let h = self.head_number();
-        if base::within(1, t.sectors as u16, self.sector as u16) {
-            if h < t.heads {
-                if c < t.cylinders {
-                    let track = (c as u32) * (t.heads as u32) + (h as u32);
-                    let number = track * (t.sectors as u32) + (self.sector as u32) - 1;
-                    return Address::Names(Sector { number });
-                }
-                return Address::Faults;
-            }
-            return Address::Faults;
+        if base::within(1, t.sectors as u16, self.sector as u16) && h < t.heads && c < t.cylinders {
+            let track = (c as u32) * (t.heads as u32) + (h as u32);
+            let number = track * (t.sectors as u32) + (self.sector as u32) - 1;
+            return Address::Names(Sector { number });
         }
         Address::Faults
     }

@@ -1,3 +1,2 @@
 pub mod Tests
 pub mod Lists
-pub mod Products

@@ -2,9 +2,9 @@
 use mathlib.Core.Bool.{Bool, true, false, ◌&&◌}
 use mathlib.Core.Path.{◌≡◌, refl, sym, ◌∙◌}
 use Prim.Native.Nat.{ℕ, ◌≤◌}
-use native.Mathlib.Omega.{arith}
 use lib.Dec.{leb}
 use borrow.Author.Tests.{lt-ltb, le-ltb, le-leb, lt-leb, eq-eqb, ne_eqb, leb-true}
+pub use Rattle.std.proofs.lemmas.Bool.{false≢true}
 use Rattle.base.specs.Choice.{pick, within}
 
 pub picked_true {ℓ} : {A : Type ℓ} (b : Bool) (x a y : A) → b ≡ true → x ≡ a → x ≡ pick b a y
@@ -39,26 +39,16 @@ told_false b r e h = sym e ∙ h
 pub ruleset picks = (picked_true, picked_false, told_true, told_false, lt-ltb, le-ltb, le-leb, lt-leb, eq-eqb, ne_eqb)
 
 -- what follows where two different constructors would be equal: `cc` shows 0 ≡ 1 from that
-pub zero≢one : ◌≡◌ {A = ℕ} 0 1 → ⊥
-zero≢one z = omega arith
-
-pub false≢true : false ≡ true → ⊥
-false≢true q = zero≢one (cc)
-
 -- a choice against false is true exactly where both tests are
 pub both_true : (a b : Bool) → pick a b false ≡ true → (a ≡ true) × (b ≡ true)
 both_true true b e = (refl, e)
 both_true false b e = absurd (false≢true e)
 
--- one test behind another is both at once
-pub pick_and : (a b c : Bool) → pick a (pick b c false) false ≡ pick (a && b) c false
-pick_and true b c = refl
-pick_and false b c = refl
-
--- a choice of true against false is its test
-pub pick_test : (b : Bool) → pick b true false ≡ b
-pick_test true = refl
-pick_test false = refl
+-- one test more behind those that all held so far
+pub and_pick : (a b c : Bool) → (a && b) && c ≡ a && pick b c false
+and_pick true true c = refl
+and_pick true false c = refl
+and_pick false b c = refl
 
 -- x within limits is neither below the low nor above the high one
 pub within_low : (low high x : ℕ) → within low high x ≡ true → low ≤ x

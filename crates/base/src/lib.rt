@@ -12,9 +12,9 @@ pub fn within(low: u16, high: u16, x: u16) -> bool
     low <= x && x <= high
 }
 
-// Two bytes as a number, the low one first.
+// Two bytes as a number, the low one first: the library's call, under a clause that callers' laws can read as it stands.
 pub fn pair(low: u8, high: u8) -> u16
     ensures { result ≡ low + 256 * high }
 {
-    (low as u16) + 256 * (high as u16)
+    u16::from_le_bytes([low, high])
 }

@@ -1,12 +1,11 @@
--- What the loops over bytes keep: so many bytes copied, so many zeroed. Each has a law for the start, for a turn and for the end.
+-- What a loop over bytes keeps: so many bytes copied, with a law for the start, for a turn and for the end.
 use mathlib.Core.Path.{◌≡◌, refl, ap, ◌∙◌}
 use mathlib.Core.List.{List, ◌++◌, append-nil}
 use Prim.Native.Nat.{ℕ, ◌+◌, ◌≤◌, ◌<◌}
 use native.Mathlib.Numerals.{add-one}
 use native.Mathlib.Omega.{arith}
-use lib.ListN.{length, get_or, take, drop, set, replicate, length-set, length-drop, drop_of_length-le}
-use borrow.Author.Fill.{fill_more}
-use lib.Seq.{paste, paste-zero, paste-suc, drop-length, get_or-drop}
+use lib.ListN.{length, get_or, take, drop, set, length-set, length-drop, drop_of_length-le}
+use lib.Seq.{paste, paste-zero, paste-suc, get_or-drop}
 
 -- j of the n bytes of s from `from` on have been copied over d's from `at` on, which gives out
 pub record Copied (n : ℕ) (d s out : List ℕ) (at from j : ℕ) : Type 0 where
@@ -49,21 +48,3 @@ paste_whole d s n e =
 
 pub copied_whole : {n : ℕ} {d s out : List ℕ} {from j : ℕ} → Copied n d s out 0 from j → length d ≡ n → n ≤ j → out ≡ take n (drop from s)
 copied_whole {n} {d} {s} {out} {from} {j} c l h = copied_done c h ∙ paste_whole d (drop from s) n l
-
--- the first j bytes of d have been zeroed, which gives out
-pub record Zeroed (d out : List ℕ) (j : ℕ) : Type 0 where
-  pub below : j ≤ length d
-  pub long : length out ≡ length d
-  pub is : out ≡ replicate j 0 ++ drop j d
-
-pub zeroed_none : (d : List ℕ) → Zeroed d d 0
-zeroed_none d = record { below = omega arith; long = refl; is = refl }
-
-pub zeroed_more : {d out : List ℕ} {j : ℕ} → Zeroed d out j → j < length d → Zeroed d (set out j 0) (j + 1)
-zeroed_more {d} {out} {j} c h =
-    record { below = omega arith; long = simp length-set c.long; is = rw c.is (fill_more j 0 d h) }
-
-pub zeroed_done : {d out : List ℕ} {j : ℕ} → Zeroed d out j → length d ≤ j → out ≡ replicate (length d) 0
-zeroed_done {d} {out} {j} c h =
-    let e : j ≡ length d = omega arith in
-    c.is ∙ ap (λ (k : ℕ). replicate k 0 ++ drop k d) e ∙ ap (λ (l : List ℕ). replicate (length d) 0 ++ l) (drop-length d) ∙ append-nil _

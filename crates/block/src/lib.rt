@@ -1,25 +1,18 @@
 // Blocks of 512 bytes: their words, the sectors of lent memory, and the password that a block carries.
 #![tactic(auto)]
 
-ghost use Rattle.std.specs.Prelude.{◌≡◌, ◌+◌, ◌*◌, ◌<◌, ◌≤◌, length};
+ghost use Rattle.std.specs.Prelude.{◌≡◌, ◌+◌, ◌*◌, ◌≤◌, length};
 ghost use Rattle.block.specs.Words.{word_at, word_put};
 ghost use Rattle.block.specs.Sectors.{zero_block, sector_at, stored_at, zeroed};
 ghost use Rattle.block.specs.Passwords.{password_of, same};
-
-fn wide(byte: u8) -> u16
-    ensures { (result ≡ byte) × (result < 256) }
-{
-    byte as u16
-}
 
 // Word n of a block, low byte first.
 #[tactic(auto, unfolding(crate::specs::Words::word_at))]
 pub fn word_at(block: &[u8; 512], n: u8) -> u16
     ensures { result ≡ word_at block.now n }
 {
-    let low = 2 * (n as usize);
-    let high = low + 1;
-    wide(block[low]) + 256 * wide(block[high])
+    let at = 2 * (n as usize);
+    u16::from_le_bytes([block[at], block[at + 1]])
 }
 
 // Word n of a block becomes w.
@@ -27,10 +20,10 @@ pub fn word_at(block: &[u8; 512], n: u8) -> u16
 pub fn put_word(block: &mut [u8; 512], n: u8, w: u16)
     ensures { block.new ≡ word_put block.old n w }
 {
-    let low = 2 * (n as usize);
-    let high = low + 1;
-    block[low] = (w % 256) as u8;
-    block[high] = (w / 256) as u8;
+    let at = 2 * (n as usize);
+    let [low, high] = w.to_le_bytes();
+    block[at] = low;
+    block[at + 1] = high;
 }
 
 // A zeroed buffer.
@@ -49,11 +42,7 @@ pub fn load(sectors: &[u8], n: u32) -> [u8; 512]
 {
     let at = 512 * (n as usize);
     let mut block = [0u8; 512];
-    let mut loaded = 0;
-    while loaded < 512 {
-        block[loaded] = sectors[at + loaded];
-        loaded += 1;
-    }
+    block.copy_from_slice(&sectors[at..at + 512]);
     block
 }
 
@@ -64,11 +53,7 @@ pub fn store(sectors: &mut [u8], n: u32, block: [u8; 512])
     ensures { sectors.new ≡ stored_at sectors.old n block }
 {
     let at = 512 * (n as usize);
-    let mut stored = 0;
-    while stored < 512 {
-        sectors[at + stored] = block[stored];
-        stored += 1;
-    }
+    sectors[at..at + 512].copy_from_slice(&block);
 }
 
 // Every byte of the memory becomes 0.
@@ -76,11 +61,7 @@ pub fn store(sectors: &mut [u8], n: u32, block: [u8; 512])
 pub fn zero(memory: &mut [u8])
     ensures { memory.new ≡ zeroed memory.old }
 {
-    let mut cleared = 0;
-    while cleared < memory.len() {
-        memory[cleared] = 0;
-        cleared += 1;
-    }
+    memory.fill(0);
 }
 
 // The password that a block carries in words 1 to 16.
@@ -89,11 +70,7 @@ pub fn password(block: [u8; 512]) -> [u8; 32]
     ensures { result ≡ password_of block }
 {
     let mut bytes = [0u8; 32];
-    let mut taken = 0;
-    while taken < 32 {
-        bytes[taken] = block[2 + taken];
-        taken += 1;
-    }
+    bytes.copy_from_slice(&block[2..34]);
     bytes
 }
 
@@ -102,11 +79,7 @@ pub fn password(block: [u8; 512]) -> [u8; 32]
 pub fn same(a: [u8; 32], b: [u8; 32]) -> bool
     ensures { result ≡ same a b }
 {
-    let mut equal = true;
-    let mut compared = 0;
-    while compared < 32 {
-        equal = equal & (a[compared] == b[compared]);
-        compared += 1;
-    }
-    equal
+    a.iter()
+        .zip(b.iter())
+        .fold(true, |equal, (x, y)| equal & (*x == *y))
 }

@@ -5,8 +5,6 @@ use native.Mathlib.Omega.{arith}
 use borrow.Author.Tests.{eqb-true}
 use lib.Dec.{eqb}
 use lib.ListN.{length, get_or}
-use mir.Syntax.{w8}
-use mir.Val.{Fits}
 use Rattle.base.proofs.Tests.{pick_both, pick_each}
 use Rattle.face.specs.declared.Action.TheVariants.{ReadWord, WriteWord}
 use Rattle.fastpath.specs.Dev.{ignored_of}
@@ -51,8 +49,8 @@ bytes_stored b p q =
     (pick_both Bytes (eqb (get_or b 11 0) 6) _ _ q
     (pick_both Bytes (eqb (get_or b 11 0) 7) _ _ q q)))))))
 
-pub bytes_known : (b : List ℕ) → ((i : ℕ) → Fits w8 (get_or b i 0)) → Bytes (transfer_stored b)
-bytes_known b fits = bytes_stored b (omega (arith, fits 16)) (omega (arith, fits 17))
+pub bytes_known : (b : List ℕ) → ((i : ℕ) → get_or b i 0 < 256) → Bytes (transfer_stored b)
+bytes_known b fits = bytes_stored b (fits 16) (fits 17)
 
 pub few_handed : (n : ℕ) (d : Device) (m : List ℕ) → Bytes d.face.hot.transfer → length (read_words_of alone_of n d m).words ≤ 65536
 few_handed n d m b = let l = handed_left n d m b in let k = most_words d.face.hot.transfer b in omega (arith, l, k)

@@ -70,6 +70,12 @@ reads_gives b x m out h s p r b' x' out' a low eh es k eb er =
       behind = ap (λ (n : ℕ). drop (2 * n) out') l ∙ k.behind ∙ ap (λ (n : ℕ). drop (2 * n) out) (sym l);
     })
 
+-- let in, the words are read
+pub reads_in : (b x m out : List ℕ) (r : Reply) (b' x' out' : List ℕ) → Done ≡ admission_of b m
+    → ReadsLent (reads_admitted b x m (length out / 2)) (words_admitted b x m (length out / 2)) out r b' x' m out'
+    → ReadsLent (read_lent b x m (length out / 2)) (words_lent b x m (length out / 2)) out r b' x' m out'
+reads_in b x m out r b' x' out' e k = rw (sym e) k
+
 -- turned away, a call leaves everything
 pub away_left : (b x m : List ℕ) (l : Lent) (w : Answer) → is_refusal w ≡ true → let_in b x m l w ≡ left_alone b x m w
 away_left b x m l Done f = absurd (false≢true f)

@@ -5,7 +5,7 @@ use mathlib.Core.Bool.{Bool, true, false}
 use mathlib.Core.List.{List}
 use native.Mathlib.Omega.{arith}
 use lib.Dec.{eqb, ltb}
-use Rattle.base.proofs.Tests.{either_way}
+use Rattle.base.proofs.Tests.{either_way, false≢true}
 use lib.ListN.{length, get_or, take, drop}
 use lib.Seq.{sets}
 use Rattle.block.specs.Words.{word_at}
@@ -16,7 +16,7 @@ use Rattle.face.specs.declared.Hot.{Hot}
 use Rattle.face.specs.declared.Face.{Face}
 use Rattle.face.specs.declared.PasswordBlock.{PasswordBlock}
 use Rattle.face.specs.declared.Transfer.{Transfer}
-use Rattle.face.specs.declared.Transfer.TheVariants.{TakingPassword}
+use Rattle.face.specs.declared.Transfer.TheVariants.{Idle, Reading, Writing, ReadingBuffer, WritingBuffer, TakingPassword}
 use Rattle.fastpath.specs.Dev.{ignored_of}
 use Rattle.glance.specs.Glances.{takes_in}
 use Rattle.lock.specs.declared.Secrets.{Secrets}
@@ -36,6 +36,7 @@ use Rattle.layout.specs.Bytes.{hot_bytes, state_of}
 use Rattle.lent.specs.Lent.{host_reply, GivesBack, Admitted, admission_of}
 use Rattle.lent.specs.declared.Reply.{Reply}
 use Rattle.lent.proofs.Lending.{LowBytes, is_refusal, hot_put}
+use Rattle.words.specs.Blocks.{takes_here}
 use Rattle.words.specs.Words.{Taken, taken_behind, write_words_of, words_in}
 use Rattle.words.specs.Bulk.{device_with, Writes}
 use Rattle.words.specs.declared.Passed.{Passed}
@@ -48,10 +49,19 @@ use Rattle.bulk.proofs.Reading.{of_stored, away_left}
 -- ---- the word that is not taken in with those before it
 
 -- a word that no transfer takes is turned away
-pub last_refused : (b x : List ℕ) (h : Hot) (s : Settled) (w : ℕ) (m : List ℕ) (t : Transfer) → h.transfer ≡ t → takes_in t ≡ false → LastWord b x h s w m false b x m
+not_taken : (t : Transfer) → takes_here t ≡ false → ((p : PasswordBlock) → t ≡ TakingPassword p → ⊥) → takes_in t ≡ false
+not_taken Idle e n = refl
+not_taken (Reading r) e n = refl
+not_taken (Writing r) e n = absurd (false≢true (sym e))
+not_taken (ReadingBuffer i) e n = refl
+not_taken (WritingBuffer i) e n = absurd (false≢true (sym e))
+not_taken (TakingPassword p) e n = absurd (n p refl)
+
+pub last_refused : (b x : List ℕ) (h : Hot) (s : Settled) (w : ℕ) (m : List ℕ) → takes_here h.transfer ≡ false → ((p : PasswordBlock) → h.transfer ≡ TakingPassword p → ⊥)
+    → LastWord b x h s w m false b x m
 unfolding alone_of ignored_of act_of write_word_of
-last_refused b x h s w m t e n =
-    record { taken = sym (word_refused_law (face_with h s x) (secrets_stored b) m w h.transfer (ap takes_in e ∙ n)); state = refl; buffer = refl; sectors = refl }
+last_refused b x h s w m e n =
+    record { taken = sym (word_refused_law (face_with h s x) (secrets_stored b) m w h.transfer (not_taken h.transfer e n)); state = refl; buffer = refl; sectors = refl }
 
 -- a password block's word: the step of the device of these parts
 block_step : (f : Face) (x : Secrets) (m : List ℕ) (w : ℕ) (p : PasswordBlock) → f.hot.transfer ≡ TakingPassword p
@@ -82,11 +92,6 @@ last_taken b x h s w m p user master l b' x' m' e eu em el es eb ex =
       buffer = ex ∙ ap (λ (z : Step). z.outcome.device.face.buffer) f;
       sectors = ap (λ (z : Step). z.sectors) f;
     }
-
--- turned away, it has left the state
-pub last_left : (b x : List ℕ) (h : Hot) (s : Settled) (w : ℕ) (m : List ℕ) (t : Bool) (b' x' m' : List ℕ) → LastWord b x h s w m t b' x' m' → t ≡ false
-    → length b ≡ 163 → length b' ≡ 163
-last_left b x h s w m t b' x' m' g e l = let f = rw e at g in ap length f.state ∙ l
 
 -- ---- all words
 
@@ -145,6 +150,11 @@ refused_gives b x m bytes h s p y m₁ w t r b₁ b' x' m' a low eh es k less ew
     let c : p.words ≡ p.words + 0 = omega arith in
     counted_gives b x m bytes _ p.words r b' x' m' e c er
     (eb ∙ ap (λ (z : List ℕ). sets z 0 (hot_bytes p.hot)) f.state ∙ hot_put b p.hot a.formed low) f.buffer f.sectors
+
+-- let in, the words are written
+pub writes_in : (b x m bytes : List ℕ) (r : Reply) (b' x' m' : List ℕ) → Done ≡ admission_of b m → GivesBack (writes_admitted b x m (words_in bytes)) r b' x' m'
+    → GivesBack (write_lent b x m (words_in bytes)) r b' x' m'
+writes_in b x m bytes r b' x' m' e k = rw (sym e) k
 
 -- turned away before any word
 pub writes_away : (b x m bytes : List ℕ) (w : Answer) (r : Reply) → w ≡ admission_of b m → is_refusal w ≡ true → r ≡ host_reply (number_of w) 0

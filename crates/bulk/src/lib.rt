@@ -8,10 +8,12 @@ ghost use Rattle.words.specs.Blocks.{takes_here};
 ghost use Rattle.bulk.specs.Bulk.{counted_reply, LastWord, reads_admitted, words_admitted, read_lent, words_lent, ReadsLent, writes_admitted, write_lent};
 
 use device::Device;
-use face::{Answer, Face, Hot, PasswordBlock, Transfer};
+use effects::Acted;
+use face::{Answer, Front, PasswordBlock, Transfer};
+use layout::State;
 use lent::Reply;
 use lock::Secrets;
-use settled::Settled;
+use words::Passed;
 
 // How many words passed; where none did of those that were wanted, the call is turned away.
 #[tactic(auto, unfolding(crate::specs::Bulk::counted_reply))]
@@ -19,10 +21,7 @@ fn counted(passed: usize, wanted: usize) -> Reply
     requires { passed ≤ 65536 }
     ensures { result ≡ counted_reply passed wanted }
 {
-    if passed == 0 {
-        if wanted == 0 {
-            return lent::answered(0, 0);
-        }
+    if passed == 0 && wanted > 0 {
         return lent::refused(Answer::NoTransfer);
     }
     lent::answered(0, passed as u32)
@@ -30,7 +29,7 @@ fn counted(passed: usize, wanted: usize) -> Reply
 
 // Words are read from a device in shape over its memory.
 pub fn read_admitted(
-    state: &mut [u8],
+    state: &mut State,
     buffer: &mut [u8; 512],
     sectors: &[u8],
     out: &mut [u8],
@@ -38,10 +37,9 @@ pub fn read_admitted(
     requires { Admitted state.old buffer.old sectors.now }
     ensures { ReadsLent (reads_admitted state.old buffer.old sectors.now (length out.old / 2)) (words_admitted state.old buffer.old sectors.now (length out.old / 2)) out.old result state.new buffer.new sectors.now out.new }
 {
-    let hot = layout::hot_at(state);
-    let settled = layout::settled_at(state);
+    let front = layout::front_at(state);
     let wanted = out.len() / 2;
-    let passed = words::read_words(hot, settled, buffer, sectors, out);
+    let passed = words::read_words(front, buffer, sectors, out);
     layout::put_hot(state, passed.hot);
     counted(passed.words, wanted)
 }
@@ -50,70 +48,56 @@ pub fn read_admitted(
 pub fn read_words(state: &mut [u8], buffer: &mut [u8; 512], sectors: &[u8], out: &mut [u8]) -> Reply
     ensures { ReadsLent (read_lent state.old buffer.old sectors.now (length out.old / 2)) (words_lent state.old buffer.old sectors.now (length out.old / 2)) out.old result state.new buffer.new sectors.now out.new }
 {
-    let answer = lent::admission(state, sectors);
-    if answer.number() == 0 {
-        return read_admitted(state, buffer, sectors, out);
+    let Some(state) = state.as_mut_array() else {
+        return lent::refused(Answer::OutOfShape);
+    };
+    match lent::admission(state, sectors) {
+        Answer::Done => read_admitted(state, buffer, sectors, out),
+        answer => lent::refused(answer),
     }
-    lent::refused(answer)
 }
 
 // A password block's word, which may take the whole device, whose hot part is held apart.
 fn block_word(
-    state: &mut [u8],
+    state: &mut State,
     buffer: &mut [u8; 512],
-    hot: Hot,
-    settled: Settled,
+    front: Front,
     taking: PasswordBlock,
     w: u16,
     sectors: &mut [u8],
 )
-    requires { (length state.old ≡ 163) × (hot.transfer ≡ Transfer.TakingPassword taking) }
-    ensures { LastWord state.old buffer.old hot settled w sectors.old true state.new buffer.new sectors.new }
+    requires { front.hot.transfer ≡ Transfer.TakingPassword taking }
+    ensures { LastWord state.old buffer.old front.hot front.settled w sectors.old true state.new buffer.new sectors.new }
 {
     let user = layout::password_at(state, 99);
     let master = layout::password_at(state, 131);
     let secrets = Secrets { user, master };
-    let block = *buffer;
-    let face = Face {
-        hot,
-        settled,
-        buffer: block,
-    };
-    let left = password::password_word(face, secrets, taking, w, sectors);
-    let face = left.face;
-    let secrets = left.secrets;
+    let face = front.with_buffer(*buffer);
+    let Acted { face, secrets, .. } = password::password_word(face, secrets, taking, w, sectors);
     layout::put_device(state, buffer, Device { face, secrets });
 }
 
 // The word that is not taken in with those before it: a password block's last, or one that is turned away. Whether it is taken.
 fn last_word(
-    state: &mut [u8],
+    state: &mut State,
     buffer: &mut [u8; 512],
-    hot: Hot,
-    settled: Settled,
+    front: Front,
     w: u16,
     sectors: &mut [u8],
 ) -> bool
-    requires { (length state.old ≡ 163) × (takes_here hot.transfer ≡ false) }
-    ensures { LastWord state.old buffer.old hot settled w sectors.old result state.new buffer.new sectors.new }
+    requires { takes_here front.hot.transfer ≡ false }
+    ensures { LastWord state.old buffer.old front.hot front.settled w sectors.old result state.new buffer.new sectors.new }
 {
-    let transfer = hot.transfer;
-    match transfer {
-        Transfer::Idle => false,
-        Transfer::Reading(r) => false,
-        Transfer::Writing(r) => false,
-        Transfer::ReadingBuffer(n) => false,
-        Transfer::WritingBuffer(n) => false,
-        Transfer::TakingPassword(b) => {
-            block_word(state, buffer, hot, settled, b, w, sectors);
-            true
-        }
-    }
+    let Transfer::TakingPassword(taking) = front.hot.transfer else {
+        return false;
+    };
+    block_word(state, buffer, front, taking, w, sectors);
+    true
 }
 
 // Words are written to a device in shape over its memory.
 pub fn write_admitted(
-    state: &mut [u8],
+    state: &mut State,
     buffer: &mut [u8; 512],
     sectors: &mut [u8],
     bytes: &[u8],
@@ -121,25 +105,21 @@ pub fn write_admitted(
     requires { Admitted state.old buffer.old sectors.old }
     ensures { GivesBack (writes_admitted state.old buffer.old sectors.old (words_in bytes.now)) result state.new buffer.new sectors.new }
 {
-    let hot = layout::hot_at(state);
-    let settled = layout::settled_at(state);
+    let front = layout::front_at(state);
     let wanted = bytes.len() / 2;
-    let passed = words::write_words(hot, settled, buffer, sectors, bytes);
-    let count = passed.words;
-    let far = passed.hot;
-    if count < wanted {
-        let w = base::pair(bytes[2 * count], bytes[2 * count + 1]);
-        if last_word(state, buffer, far, settled, w, sectors) {
-            return counted(count + 1, wanted);
+    let Passed { hot, words } = words::write_words(front, buffer, sectors, bytes);
+    if words < wanted {
+        let w = base::pair(bytes[2 * words], bytes[2 * words + 1]);
+        if last_word(state, buffer, Front { hot, ..front }, w, sectors) {
+            return counted(words + 1, wanted);
         }
-        layout::put_hot(state, far);
-        return counted(count, wanted);
     }
-    layout::put_hot(state, far);
-    counted(count, wanted)
+    layout::put_hot(state, hot);
+    counted(words, wanted)
 }
 
-// Data words are written, up to the first that is turned away.
+// Data words are written, up to the first that is turned away. What it shares with read_words is how a call is let in: a function over both
+// would need a clause on every byte that is lent for these few lines.
 pub fn write_words(
     state: &mut [u8],
     buffer: &mut [u8; 512],
@@ -148,9 +128,11 @@ pub fn write_words(
 ) -> Reply
     ensures { GivesBack (write_lent state.old buffer.old sectors.old (words_in bytes.now)) result state.new buffer.new sectors.new }
 {
-    let answer = lent::admission(state, sectors);
-    if answer.number() == 0 {
-        return write_admitted(state, buffer, sectors, bytes);
+    let Some(state) = state.as_mut_array() else {
+        return lent::refused(Answer::OutOfShape);
+    };
+    match lent::admission(state, sectors) {
+        Answer::Done => write_admitted(state, buffer, sectors, bytes),
+        answer => lent::refused(answer),
     }
-    lent::refused(answer)
 }

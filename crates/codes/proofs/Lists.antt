@@ -1,10 +1,9 @@
 -- Which codes may run, by the paper's own lists of codes, for all 256 codes in each lock state.
 use mathlib.Core.Bool.{Bool, true, false, not, ◌&&◌, ◌||◌, beq}
-use mathlib.Core.Path.{◌≡◌, refl}
+use mathlib.Core.Path.{◌≡◌, refl, sym}
 use mathlib.Core.List.{List, [], ◌∷◌}
 use Prim.Native.Nat.{ℕ, ◌<◌}
 use Rattle.base.specs.Choice.{within}
-use Rattle.base.proofs.Tests.{zero≢one}
 use Rattle.base.proofs.Lists.{among, below, below_each}
 use Rattle.lock.specs.declared.Lock.{Lock}
 use Rattle.lock.specs.declared.Lock.TheVariants.{Open, Locked, Frozen}
@@ -45,8 +44,8 @@ whole Frozen = refl
 
 beq_true : (a b : Bool) → beq a b ≡ true → a ≡ b
 beq_true true true e = refl
-beq_true true false e = absurd (zero≢one (cc))
-beq_true false true e = absurd (zero≢one (cc))
+beq_true true false e = sym e
+beq_true false true e = e
 beq_true false false e = refl
 
 -- a code may run exactly if it is a command's and not among those that the lock state aborts

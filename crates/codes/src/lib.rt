@@ -2,7 +2,7 @@
 #![tactic(auto)]
 
 ghost use Rattle.std.specs.Prelude.{◌≡◌};
-ghost use Rattle.codes.specs.Commands.{coded_of, decode_of};
+ghost use Rattle.codes.specs.Commands.{decode_of};
 ghost use Rattle.codes.specs.MayRun.{not_locked, not_frozen, runs_in, may_run_of, barred_of};
 
 use lock::{Lock, Security};
@@ -29,18 +29,17 @@ pub enum Command {
     SecurityDisablePassword,
 }
 
-// The commands with one or two codes each.
-#[tactic(auto, unfolding(crate::specs::Commands::coded_of))]
-fn coded(code: u8) -> Command
-    ensures { result ≡ coded_of code }
+// The command of a code.
+#[tactic(auto, unfolding(crate::specs::Commands::decode_of, crate::specs::Commands::coded_of))]
+pub fn decode(code: u8) -> Command
+    ensures { result ≡ decode_of code }
 {
     match code {
-        0x20 => Command::ReadSectors,
-        0x21 => Command::ReadSectors,
-        0x30 => Command::WriteSectors,
-        0x31 => Command::WriteSectors,
-        0x40 => Command::VerifySectors,
-        0x41 => Command::VerifySectors,
+        0x10..=0x1F => Command::Recalibrate,
+        0x20 | 0x21 => Command::ReadSectors,
+        0x30 | 0x31 => Command::WriteSectors,
+        0x40 | 0x41 => Command::VerifySectors,
+        0x70..=0x7F => Command::Seek,
         0x90 => Command::ExecuteDiagnostic,
         0x91 => Command::InitializeParameters,
         0xE4 => Command::ReadBuffer,
@@ -56,38 +55,16 @@ fn coded(code: u8) -> Command
     }
 }
 
-// The command of a code.
-#[tactic(auto, unfolding(crate::specs::Commands::decode_of))]
-pub fn decode(code: u8) -> Command
-    ensures { result ≡ decode_of code }
-{
-    if code / 16 == 1 {
-        return Command::Recalibrate;
-    }
-    if code / 16 == 7 {
-        return Command::Seek;
-    }
-    coded(code)
-}
-
 fn not_locked(lock: Lock) -> bool
     ensures { result ≡ not_locked lock }
 {
-    match lock {
-        Lock::Open => true,
-        Lock::Locked => false,
-        Lock::Frozen => true,
-    }
+    matches!(lock, Lock::Open | Lock::Frozen)
 }
 
 fn not_frozen(lock: Lock) -> bool
     ensures { result ≡ not_frozen lock }
 {
-    match lock {
-        Lock::Open => true,
-        Lock::Locked => true,
-        Lock::Frozen => false,
-    }
+    matches!(lock, Lock::Open | Lock::Locked)
 }
 
 impl Command {
@@ -97,22 +74,13 @@ impl Command {
     {
         match self {
             Command::Unknown => false,
-            Command::Recalibrate => true,
-            Command::ReadSectors => not_locked(lock),
-            Command::WriteSectors => not_locked(lock),
-            Command::VerifySectors => not_locked(lock),
-            Command::Seek => true,
-            Command::ExecuteDiagnostic => true,
-            Command::InitializeParameters => true,
-            Command::ReadBuffer => true,
-            Command::WriteBuffer => true,
-            Command::IdentifyDevice => true,
-            Command::SecuritySetPassword => lock.open(),
-            Command::SecurityUnlock => not_frozen(lock),
-            Command::SecurityErasePrepare => true,
-            Command::SecurityEraseUnit => not_frozen(lock),
-            Command::SecurityFreezeLock => not_locked(lock),
-            Command::SecurityDisablePassword => lock.open(),
+            Command::ReadSectors
+            | Command::WriteSectors
+            | Command::VerifySectors
+            | Command::SecurityFreezeLock => not_locked(lock),
+            Command::SecurityUnlock | Command::SecurityEraseUnit => not_frozen(lock),
+            Command::SecuritySetPassword | Command::SecurityDisablePassword => lock.open(),
+            _ => true,
         }
     }
 
@@ -121,23 +89,9 @@ impl Command {
         ensures { result ≡ barred_of self security }
     {
         match self {
-            Command::Unknown => false,
-            Command::Recalibrate => false,
-            Command::ReadSectors => false,
-            Command::WriteSectors => false,
-            Command::VerifySectors => false,
-            Command::Seek => false,
-            Command::ExecuteDiagnostic => false,
-            Command::InitializeParameters => false,
-            Command::ReadBuffer => false,
-            Command::WriteBuffer => false,
-            Command::IdentifyDevice => false,
-            Command::SecuritySetPassword => false,
             Command::SecurityUnlock => security.exhausted(),
-            Command::SecurityErasePrepare => false,
             Command::SecurityEraseUnit => security.cannot_erase(),
-            Command::SecurityFreezeLock => false,
-            Command::SecurityDisablePassword => false,
+            _ => false,
         }
     }
 }

@@ -1,8 +1,8 @@
 -- The other commands (document 01, "Commands" and "The lock").
+use Rattle.std.specs.Prelude.{Option, Some, None}
+use Rattle.geometry.specs.declared.Translation.{Translation}
 use Rattle.base.specs.Choice.{pick}
 use Rattle.geometry.specs.Translation.{initialized_of}
-use Rattle.geometry.specs.declared.Initialized.{Initialized}
-use Rattle.geometry.specs.declared.Initialized.TheVariants.{To, Aborted}
 use Rattle.address.specs.Registers.{lba_selected, with_sector, with_cylinder, with_head}
 use Rattle.address.specs.declared.AddressRegisters.{AddressRegisters}
 use Rattle.address.specs.declared.Address.{Address}
@@ -37,9 +37,9 @@ unfoldable pub recalibrate_of : Face → Face
 recalibrate_of f = with_hot f (finish_of (ended_at f.hot (recalibrated_at f.hot.regs.at) f.hot.regs.count))
 
 -- 91h makes a translation, or aborts
-abbrev pub initialize_as : Face → Initialized → Face
-initialize_as f (To t) = with_settled (finish_face f) (with_translation f.settled t)
-initialize_as f Aborted = abort_face f
+abbrev pub initialize_as : Face → Option Translation → Face
+initialize_as f (Some t) = with_settled (finish_face f) (with_translation f.settled t)
+initialize_as f None = abort_face f
 
 -- 91h
 unfoldable pub initialize_parameters_of : Face → Face

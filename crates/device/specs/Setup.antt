@@ -1,10 +1,8 @@
 -- Setup (document 01, "The disk and its three lives"; answer 6).
-use Rattle.std.specs.Prelude.{ℕ, List}
+use Rattle.std.specs.Prelude.{ℕ, List, Option, Some, None}
 use Rattle.base.specs.Choice.{pick}
 use Rattle.geometry.specs.Geometry.{checked_of}
 use Rattle.geometry.specs.declared.Geometry.{Geometry}
-use Rattle.geometry.specs.declared.Checked.{Checked}
-use Rattle.geometry.specs.declared.Checked.TheVariants.{Within, OutsideLimits}
 use Rattle.lock.specs.Passwords.{zero_password, fresh_secrets}
 use Rattle.settled.specs.Identity.{identity_fits}
 use Rattle.settled.specs.Setup.{fresh_settled}
@@ -30,9 +28,9 @@ abbrev pub setup_refused : Outcome
 setup_refused = outcome zero_device SetupRefused 0
 
 -- by the three counts
-abbrev pub setup_as : Checked → Identity → List ℕ → Outcome
-setup_as (Within g) i p = pick (identity_fits i) (outcome (fresh_of g i p) Done 0) setup_refused
-setup_as OutsideLimits i p = setup_refused
+abbrev pub setup_as : Option Geometry → Identity → List ℕ → Outcome
+setup_as (Some g) i p = pick (identity_fits i) (outcome (fresh_of g i p) Done 0) setup_refused
+setup_as None i p = setup_refused
 
 -- setup: "setup outside the limits above" is answer 6
 unfoldable pub setup_of : ℕ → ℕ → ℕ → Identity → List ℕ → Outcome

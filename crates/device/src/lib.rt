@@ -8,10 +8,10 @@ ghost use Rattle.device.specs.Alone.{outcome, quick_outcome, told_of, acted_of, 
 ghost use Rattle.device.specs.Host.{alone_fits, parts_shaped, shaped_of, step_of};
 
 use effects::Acted;
-use face::{Action, Answer, Face, Hot, Quick, Seen};
-use geometry::{Checked, Geometry};
+use face::{Action, Answer, Face, Front, Hot, Seen};
+use geometry::Geometry;
 use lock::Secrets;
-use settled::{Identity, Settled};
+use settled::Identity;
 
 #[derive(Clone, Copy)]
 pub struct Device {
@@ -19,7 +19,8 @@ pub struct Device {
     pub secrets: Secrets,
 }
 
-// The answer's number and value, and the device as the action left it.
+// The answer's number and value, and the device as the action left it: "number, value, device" are what document 01 settles, so the
+// number stays a number (docs/DECISIONS.md, 62).
 #[derive(Clone, Copy)]
 pub struct Outcome {
     pub number: u8,
@@ -51,34 +52,25 @@ fn fresh(geometry: Geometry, identity: Identity, master: [u8; 32]) -> Device
 fn alone_fits(hot: Hot) -> bool
     ensures { result ≡ alone_fits hot }
 {
-    if fastpath::dev_set(hot) {
-        if hot.signals.held {
-            return false;
-        }
-        return hot.idle();
-    }
-    true
+    !fastpath::dev_set(hot) || (!hot.signals.held && hot.idle())
 }
 
 // The clauses of answer 2, over the parts that they speak of.
-pub fn fits(settled: Settled, hot: Hot) -> bool
-    ensures { result ≡ parts_shaped settled hot }
+pub fn fits(front: Front) -> bool
+    ensures { result ≡ parts_shaped front.settled front.hot }
 {
-    if shape::fits(settled, hot) {
-        return alone_fits(hot);
-    }
-    false
+    shape::fits(front) && alone_fits(front.hot)
 }
 
 // What a disk's own action left.
 fn told(left: Acted) -> Outcome
     ensures { result ≡ told_of left }
 {
-    let face = left.face;
-    let secrets = left.secrets;
-    let answer = left.answer;
-    let device = Device { face, secrets };
-    device.shows(answer, left.value)
+    let device = Device {
+        face: left.face,
+        secrets: left.secrets,
+    };
+    device.shows(left.answer, left.value)
 }
 
 impl Device {
@@ -103,13 +95,12 @@ impl Device {
     ) -> Outcome
         ensures { result ≡ setup_of cylinders heads sectors identity master }
     {
-        let Checked::Within(geometry) = Geometry::new(cylinders, heads, sectors) else {
-            return zero_device().shows(Answer::SetupRefused, 0);
-        };
-        if identity.fits() {
-            return fresh(geometry, identity, master).shows(Answer::Done, 0);
+        match Geometry::new(cylinders, heads, sectors) {
+            Some(geometry) if identity.fits() => {
+                fresh(geometry, identity, master).shows(Answer::Done, 0)
+            }
+            _ => zero_device().shows(Answer::SetupRefused, 0),
         }
-        zero_device().shows(Answer::SetupRefused, 0)
     }
 
     // The clauses of answer 2.
@@ -117,11 +108,11 @@ impl Device {
     pub fn shaped(self) -> bool
         ensures { result ≡ shaped_of self }
     {
-        let face = self.face;
-        fits(face.settled, face.hot)
+        fits(self.face.front())
     }
 
     // The disk's own action.
+    // Memory is a clause and no type, which would take four structs (docs/DECISIONS.md, 65).
     fn acted(self, action: Action, sectors: &mut [u8]) -> Outcome
         requires { Memory self.face.settled.geometry self.face.settled.translation sectors.old }
         ensures { (result ≡ (acted_of self sectors.old action).outcome) × (sectors.new ≡ (acted_of self sectors.old action).sectors) }
@@ -136,23 +127,18 @@ impl Device {
         requires { Memory self.face.settled.geometry self.face.settled.translation sectors.old }
         ensures { (result ≡ (alone_of self sectors.old action).outcome) × (sectors.new ≡ (alone_of self sectors.old action).sectors) }
     {
-        let face = self.face;
-        let hot = face.hot;
-        if fastpath::ignored(hot, action) {
+        if fastpath::ignored(self.face.hot, action) {
             return self.shows(Answer::Done, 0);
         }
         self.acted(action, sectors)
     }
 
     // What the fast path settled, put in place.
-    fn settles(mut self, buffer: [u8; 512], seen: Seen) -> Outcome
+    fn settles(self, buffer: [u8; 512], seen: Seen) -> Outcome
         ensures { result ≡ quick_outcome self buffer seen }
     {
-        let face = self.face;
-        let hot = seen.hot;
-        let answer = seen.answer;
-        self.face = face.with_buffer(buffer).with_hot(hot);
-        self.shows(answer, seen.value)
+        let face = self.face.with_buffer(buffer).with_hot(seen.hot);
+        Device { face, ..self }.shows(seen.answer, seen.value)
     }
 
     // The same action, by the fast path where it settles it.
@@ -160,13 +146,10 @@ impl Device {
         requires { Memory self.face.settled.geometry self.face.settled.translation sectors.old }
         ensures { (result ≡ (alone_of self sectors.old action).outcome) × (sectors.new ≡ (alone_of self sectors.old action).sectors) }
     {
-        let face = self.face;
-        let hot = face.hot;
-        let mut buffer = face.buffer;
-        let q = fastpath::quick(hot, &mut buffer, action);
-        match q {
-            Quick::Settles(seen) => self.settles(buffer, seen),
-            Quick::Slow => self.act(action, sectors),
+        let mut buffer = self.face.buffer;
+        match fastpath::quick(self.face.hot, &mut buffer, action) {
+            Some(seen) => self.settles(buffer, seen),
+            None => self.act(action, sectors),
         }
     }
 
@@ -175,16 +158,13 @@ impl Device {
     pub fn host(self, action: Action, sectors: &mut [u8]) -> Outcome
         ensures { (result ≡ (step_of self sectors.old action).outcome) × (sectors.new ≡ (step_of self sectors.old action).sectors) }
     {
-        let face = self.face;
-        let settled = face.settled;
-        let geometry = settled.geometry;
-        if self.shaped() {
-            if sectors.len() == 512 * (geometry.capacity() as usize) {
-                return self.step(action, sectors);
-            }
+        if !self.shaped() {
+            return self.shows(Answer::OutOfShape, 0);
+        }
+        if sectors.len() != 512 * (self.face.settled.geometry.capacity() as usize) {
             return self.shows(Answer::WrongLength, 0);
         }
-        self.shows(Answer::OutOfShape, 0)
+        self.step(action, sectors)
     }
 
     pub fn read_register(self, n: u8, sectors: &mut [u8]) -> Outcome

@@ -26,23 +26,20 @@ fn refused(face: Face, secrets: Secrets) -> Acted
 }
 
 // A data word is written.
+// Memory is a clause and no type, which would take four structs (docs/DECISIONS.md, 65).
 #[tactic(auto, unfolding(crate::specs::Actions::write_word_of))]
 fn write_word(face: Face, secrets: Secrets, w: u16, sectors: &mut [u8]) -> Acted
     requires { Memory face.settled.geometry face.settled.translation sectors.old }
     ensures { (result ≡ (write_word_of face secrets sectors.old w).acted) × (sectors.new ≡ (write_word_of face secrets sectors.old w).sectors) }
 {
-    let hot = face.hot;
-    let t = hot.transfer;
-    match t {
-        Transfer::Idle => refused(face, secrets),
-        Transfer::Reading(r) => refused(face, secrets),
+    match face.hot.transfer {
         Transfer::Writing(r) => effects::done(writing::write_run(face, r, w, sectors), secrets),
-        Transfer::ReadingBuffer(n) => refused(face, secrets),
         Transfer::WritingBuffer(n) => effects::done(
             transfers::write_buffer_word(face, n, w),
             secrets,
         ),
         Transfer::TakingPassword(b) => password::password_word(face, secrets, b, w, sectors),
+        _ => refused(face, secrets),
     }
 }
 
@@ -50,8 +47,7 @@ fn write_word(face: Face, secrets: Secrets, w: u16, sectors: &mut [u8]) -> Acted
 fn register_put(face: Face, n: u8, v: u8) -> Face
     ensures { result ≡ with_hot face (put_register face.hot n v) }
 {
-    let hot = face.hot;
-    face.with_hot(hot.put_register(n, v))
+    face.with_hot(face.hot.put_register(n, v))
 }
 
 // A write that is done leaves this face.
@@ -67,7 +63,7 @@ fn command_written(face: Face, code: u8, sectors: &[u8]) -> Face
     ensures { result ≡ command_of face sectors.now code }
 {
     let mut buffer = face.buffer;
-    let front = commands::command(face.hot, face.settled, code, &mut buffer, sectors);
+    let front = commands::command(face.front(), code, &mut buffer, sectors);
     front.with_buffer(buffer)
 }
 
@@ -76,7 +72,7 @@ fn control_written(face: Face, v: u8) -> Face
     ensures { result ≡ control_of face v }
 {
     let mut buffer = face.buffer;
-    let front = resets::control(face.hot, face.settled, v, &mut buffer);
+    let front = resets::control(face.front(), v, &mut buffer);
     front.with_buffer(buffer)
 }
 
@@ -111,28 +107,22 @@ fn write_register(face: Face, n: u8, v: u8, sectors: &[u8]) -> Told
 fn register_read(face: Face, secrets: Secrets, n: u8) -> Acted
     ensures { result ≡ seen_acted face secrets (read_register face.hot n) }
 {
-    let hot = face.hot;
-    let seen = hot.read_register(n);
-    let left = seen.hot;
-    let answer = seen.answer;
-    effects::acts(face.with_hot(left), secrets, answer, seen.value)
+    let seen = face.hot.read_register(n);
+    effects::acts(face.with_hot(seen.hot), secrets, seen.answer, seen.value)
 }
 
 // The interrupt line is read.
 fn line_read(face: Face, secrets: Secrets) -> Acted
     ensures { result ≡ acted face secrets Answer.Done (line_of face.hot) }
 {
-    let hot = face.hot;
-    effects::acts(face, secrets, Answer::Done, hot.line())
+    effects::acts(face, secrets, Answer::Done, face.hot.line())
 }
 
 // An action that leaves the passwords.
 fn told_acts(secrets: Secrets, told: Told) -> Acted
     ensures { result ≡ told_acted secrets told }
 {
-    let face = told.face;
-    let answer = told.answer;
-    effects::acts(face, secrets, answer, told.value)
+    effects::acts(told.face, secrets, told.answer, told.value)
 }
 
 // A host action over the disk's own memory.
@@ -146,8 +136,7 @@ pub fn act(face: Face, secrets: Secrets, action: Action, sectors: &mut [u8]) -> 
         Action::WriteRegister(n, v) => told_acts(secrets, write_register(face, n, v, &sectors[..])),
         Action::ReadWord => told_acts(secrets, reading::read_word(face, &sectors[..])),
         Action::WriteWord(w) => write_word(face, secrets, w, sectors),
-        Action::HardwareReset => effects::done(powered_on(face), secrets),
-        Action::PowerOn => effects::done(powered_on(face), secrets),
+        Action::HardwareReset | Action::PowerOn => effects::done(powered_on(face), secrets),
         Action::Line => line_read(face, secrets),
     }
 }

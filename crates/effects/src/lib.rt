@@ -7,7 +7,7 @@ ghost use Rattle.effects.specs.Effects.{acted};
 use face::{Answer, Face};
 use lock::Secrets;
 
-// What an action leaves of a disk, and what it shows.
+// What an action leaves of a disk, and what it shows: as in face::Seen, any answer beside any value.
 #[derive(Clone, Copy)]
 pub struct Acted {
     pub face: Face,
@@ -16,6 +16,7 @@ pub struct Acted {
     pub value: u16,
 }
 
+// Face and passwords stay two parameters, here and in `password` and `disk`: a struct of both would be device::Device again (docs/DECISIONS.md, 66).
 pub fn acts(face: Face, secrets: Secrets, answer: Answer, value: u16) -> Acted
     ensures { result ≡ acted face secrets answer value }
 {

@@ -3,18 +3,18 @@
 
 ghost use Rattle.std.specs.Prelude.{◌≡◌, ◌<◌};
 ghost use Rattle.face.specs.Registers.{start_registers};
-ghost use Rattle.face.specs.Face.{no_signals, start_hot, with_regs, with_transfer, face_with, with_hot, with_settled, with_buffer, next_word, next_password_word};
+ghost use Rattle.face.specs.Face.{start_hot, with_regs, with_transfer, face_with, with_hot, with_settled, with_buffer, next_word, next_password_word};
 ghost use Rattle.face.specs.Reads.{number_of, value_of, is_idle, status_of, seen, quiet_of, read_register, line_of};
 ghost use Rattle.face.specs.Writes.{busy_of, store_register, put_register};
 ghost use Rattle.face.specs.Ends.{cleared_of, raised_of, finish_of, fail_of, abort_of, ended_at};
-ghost use Rattle.face.specs.Setup.{zero_hot, zero_face};
+ghost use Rattle.face.specs.Setup.{zero_face};
 
 use address::AddressRegisters;
 use lock::Purpose;
 use settled::Settled;
 
 // Registers 1 to 6: Error as read, Features as written, Sector Count, and the address.
-#[derive(Clone, Copy)]
+#[derive(Clone, Copy, Default)]
 pub struct Registers {
     pub error: u8,
     pub features: u8,
@@ -23,7 +23,7 @@ pub struct Registers {
 }
 
 // Reset held (SRST), interrupt masked (nIEN), interrupt raised, and whether the last command failed.
-#[derive(Clone, Copy)]
+#[derive(Clone, Copy, Default)]
 pub struct Signals {
     pub held: bool,
     pub masked: bool,
@@ -48,8 +48,9 @@ pub struct PasswordBlock {
 }
 
 // The transfer that is open. READ BUFFER and IDENTIFY both hand the buffer out.
-#[derive(Clone, Copy)]
+#[derive(Clone, Copy, Default)]
 pub enum Transfer {
+    #[default]
     Idle,
     Reading(Run),
     Writing(Run),
@@ -59,7 +60,7 @@ pub enum Transfer {
 }
 
 // The register file and the transfer: no arrays.
-#[derive(Clone, Copy)]
+#[derive(Clone, Copy, Default)]
 pub struct Hot {
     pub regs: Registers,
     pub signals: Signals,
@@ -92,18 +93,19 @@ pub enum Action {
     Line,
 }
 
-// The answers, by the paper's numbers 0 to 4 and 6.
+// The answers, by the paper's numbers; 5 is the replay's alone.
 #[derive(Clone, Copy)]
 pub enum Answer {
-    Done,
-    NoRegister,
-    OutOfShape,
-    WrongLength,
-    NoTransfer,
-    SetupRefused,
+    Done = 0,
+    NoRegister = 1,
+    OutOfShape = 2,
+    WrongLength = 3,
+    NoTransfer = 4,
+    SetupRefused = 6,
 }
 
-// What an action on the hot part alone shows.
+// What an action on the hot part alone shows. An answer stands beside a value here, in Told and in Acted: `shows`, `tells`, `acts` and
+// `value_of` take any of either, which a Result could not hold (docs/DECISIONS.md, 62).
 #[derive(Clone, Copy)]
 pub struct Seen {
     pub hot: Hot,
@@ -111,26 +113,12 @@ pub struct Seen {
     pub value: u16,
 }
 
-// What the hot part and the buffer settle, or that more is needed.
-#[derive(Clone, Copy)]
-pub enum Quick {
-    Settles(Seen),
-    Slow,
-}
-
 impl Answer {
     // The paper's number.
     pub fn number(self) -> u8
         ensures { result ≡ number_of self }
     {
-        match self {
-            Answer::Done => 0,
-            Answer::NoRegister => 1,
-            Answer::OutOfShape => 2,
-            Answer::WrongLength => 3,
-            Answer::NoTransfer => 4,
-            Answer::SetupRefused => 6,
-        }
+        self as u8
     }
 }
 
@@ -140,39 +128,21 @@ pub fn value_of(answer: Answer, value: u16) -> u16
 {
     match answer {
         Answer::Done => value,
-        Answer::NoRegister => 0,
-        Answer::OutOfShape => 0,
-        Answer::WrongLength => 0,
-        Answer::NoTransfer => 0,
-        Answer::SetupRefused => 0,
+        _ => 0,
     }
 }
 
 fn start_registers() -> Registers
     ensures { result ≡ start_registers }
 {
-    let at = AddressRegisters {
-        sector: 1,
-        low: 0,
-        high: 0,
-        head: 0,
-    };
     Registers {
         error: 1,
         features: 0,
         count: 1,
-        at,
-    }
-}
-
-fn no_signals() -> Signals
-    ensures { result ≡ no_signals }
-{
-    Signals {
-        held: false,
-        masked: false,
-        raised: false,
-        failed: false,
+        at: AddressRegisters {
+            sector: 1,
+            ..AddressRegisters::default()
+        },
     }
 }
 
@@ -181,46 +151,28 @@ impl Hot {
     pub fn start() -> Hot
         ensures { result ≡ start_hot }
     {
-        let regs = start_registers();
-        let signals = no_signals();
         Hot {
-            regs,
-            signals,
-            transfer: Transfer::Idle,
+            regs: start_registers(),
+            ..Hot::default()
         }
     }
 
     pub fn with_transfer(self, transfer: Transfer) -> Hot
         ensures { result ≡ with_transfer self transfer }
     {
-        let regs = self.regs;
-        let signals = self.signals;
-        Hot {
-            regs,
-            signals,
-            transfer,
-        }
+        Hot { transfer, ..self }
     }
 
-    fn with_regs(mut self, regs: Registers) -> Hot
+    fn with_regs(self, regs: Registers) -> Hot
         ensures { result ≡ with_regs self regs }
     {
-        self.regs = regs;
-        self
+        Hot { regs, ..self }
     }
 
     pub fn idle(self) -> bool
         ensures { result ≡ is_idle self.transfer }
     {
-        let t = self.transfer;
-        match t {
-            Transfer::Idle => true,
-            Transfer::Reading(r) => false,
-            Transfer::Writing(r) => false,
-            Transfer::ReadingBuffer(n) => false,
-            Transfer::WritingBuffer(n) => false,
-            Transfer::TakingPassword(b) => false,
-        }
+        matches!(self.transfer, Transfer::Idle)
     }
 
     // Status, but for DEV.
@@ -280,13 +232,7 @@ impl Hot {
     pub fn line(self) -> u16
         ensures { result ≡ line_of self }
     {
-        if self.signals.raised {
-            if self.signals.masked {
-                return 0;
-            }
-            return 1;
-        }
-        0
+        u16::from(self.signals.raised && !self.signals.masked)
     }
 
     // Reset held, or a transfer open: writes to registers 1 to 6 do nothing.
@@ -294,13 +240,7 @@ impl Hot {
     fn busy(self) -> bool
         ensures { result ≡ busy_of self }
     {
-        if self.signals.held {
-            return true;
-        }
-        if self.idle() {
-            return false;
-        }
-        true
+        self.signals.held || !self.idle()
     }
 
     #[tactic(auto, unfolding(crate::specs::Writes::store_register))]
@@ -308,31 +248,14 @@ impl Hot {
         ensures { result ≡ store_register self n v }
     {
         match n {
-            1 => {
-                self.regs.features = v;
-                return self;
-            }
-            2 => {
-                self.regs.count = v;
-                return self;
-            }
-            3 => {
-                self.regs.at.sector = v;
-                return self;
-            }
-            4 => {
-                self.regs.at.low = v;
-                return self;
-            }
-            5 => {
-                self.regs.at.high = v;
-                return self;
-            }
-            _ => {
-                self.regs.at.head = v;
-                return self;
-            }
+            1 => self.regs.features = v,
+            2 => self.regs.count = v,
+            3 => self.regs.at.sector = v,
+            4 => self.regs.at.low = v,
+            5 => self.regs.at.high = v,
+            _ => self.regs.at.head = v,
         }
+        self
     }
 
     // One of registers 1 to 6 is written.
@@ -391,10 +314,11 @@ impl Hot {
     pub fn ended_at(self, at: AddressRegisters, count: u8) -> Hot
         ensures { result ≡ ended_at self at count }
     {
-        let mut regs = self.regs;
-        regs.count = count;
-        regs.at = at;
-        self.with_regs(regs)
+        self.with_regs(Registers {
+            count,
+            at,
+            ..self.regs
+        })
     }
 
     // EXECUTE DEVICE DIAGNOSTIC's register values.
@@ -406,22 +330,27 @@ impl Hot {
 }
 
 impl Run {
-    pub fn next_word(mut self) -> Run
+    pub fn next_word(self) -> Run
         requires { self.word < 255 }
         ensures { result ≡ next_word self }
     {
-        self.word = self.word + 1;
-        self
+        Run {
+            word: self.word + 1,
+            ..self
+        }
     }
 }
 
+// As a run's: a trait for the two would need more lines than this one field's update.
 impl PasswordBlock {
-    pub fn next_word(mut self) -> PasswordBlock
+    pub fn next_word(self) -> PasswordBlock
         requires { self.word < 255 }
         ensures { result ≡ next_password_word self }
     {
-        self.word = self.word + 1;
-        self
+        PasswordBlock {
+            word: self.word + 1,
+            ..self
+        }
     }
 }
 
@@ -429,60 +358,39 @@ impl Front {
     pub fn with_buffer(self, buffer: [u8; 512]) -> Face
         ensures { result ≡ face_with self.hot self.settled buffer }
     {
-        let hot = self.hot;
-        let settled = self.settled;
         Face {
-            hot,
-            settled,
+            hot: self.hot,
+            settled: self.settled,
             buffer,
         }
     }
 }
 
 impl Face {
-    pub fn with_hot(mut self, hot: Hot) -> Face
+    // The face but for its buffer.
+    pub fn front(self) -> Front
+        ensures { (result.hot ≡ self.hot) × (result.settled ≡ self.settled) }
+    {
+        let Face { hot, settled, .. } = self;
+        Front { hot, settled }
+    }
+
+    pub fn with_hot(self, hot: Hot) -> Face
         ensures { result ≡ with_hot self hot }
     {
-        self.hot = hot;
-        self
+        Face { hot, ..self }
     }
 
-    pub fn with_settled(mut self, settled: Settled) -> Face
+    pub fn with_settled(self, settled: Settled) -> Face
         ensures { result ≡ with_settled self settled }
     {
-        self.settled = settled;
-        self
+        Face { settled, ..self }
     }
 
-    pub fn with_buffer(mut self, buffer: [u8; 512]) -> Face
+    pub fn with_buffer(self, buffer: [u8; 512]) -> Face
         ensures { result ≡ with_buffer self buffer }
     {
-        self.buffer = buffer;
-        self
-    }
-}
-
-// Registers, signals and transfer of a record all zero.
-fn zero_hot() -> Hot
-    ensures { result ≡ zero_hot }
-{
-    let at = AddressRegisters {
-        sector: 0,
-        low: 0,
-        high: 0,
-        head: 0,
-    };
-    let regs = Registers {
-        error: 0,
-        features: 0,
-        count: 0,
-        at,
-    };
-    let signals = no_signals();
-    Hot {
-        regs,
-        signals,
-        transfer: Transfer::Idle,
+        Face { buffer, ..self }
     }
 }
 
@@ -490,12 +398,9 @@ fn zero_hot() -> Hot
 pub fn zero_face() -> Face
     ensures { result ≡ zero_face }
 {
-    let hot = zero_hot();
-    let settled = settled::zero_settled();
-    let buffer = block::zeros();
     Face {
-        hot,
-        settled,
-        buffer,
+        hot: Hot::default(),
+        settled: settled::zero_settled(),
+        buffer: block::zeros(),
     }
 }

@@ -1,9 +1,8 @@
 -- The fast path of a disk alone on its cable: the rules for DEV set (document 01, "Registers").
-use Rattle.std.specs.Prelude.{ℕ, ◌/◌, ◌%◌, Bool, true, false, not, List, eqb}
+use Rattle.std.specs.Prelude.{ℕ, ◌/◌, ◌%◌, Bool, true, false, not, List, eqb, Option, None}
 use Rattle.base.specs.Choice.{pick}
+use Rattle.face.specs.declared.Seen.{Seen}
 use Rattle.face.specs.declared.Hot.{Hot}
-use Rattle.face.specs.declared.Quick.{Quick}
-use Rattle.face.specs.declared.Quick.TheVariants.{Slow}
 use Rattle.face.specs.declared.Action.{Action}
 use Rattle.face.specs.declared.Action.TheVariants.{ReadRegister, WriteRegister, ReadWord, WriteWord, HardwareReset, PowerOn, Line}
 use Rattle.fastpath.specs.Quick.{quick_of, quick_buffer}
@@ -27,8 +26,8 @@ unfoldable pub ignored_of : Hot → Action → Bool
 ignored_of h a = pick (unanswered_of a) (dev_set h) false
 
 -- the fast path
-unfoldable pub quick_alone : Hot → List ℕ → Action → Quick
-quick_alone h b a = pick (ignored_of h a) Slow (quick_of h b a)
+unfoldable pub quick_alone : Hot → List ℕ → Action → Option Seen
+quick_alone h b a = pick (ignored_of h a) None (quick_of h b a)
 
 -- and what it leaves in the buffer
 unfoldable pub quick_alone_buffer : Hot → List ℕ → Action → List ℕ

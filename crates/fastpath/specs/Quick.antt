@@ -1,8 +1,9 @@
 -- The fast path: what the register file, the transfer and the buffer settle by themselves. The disk crate's law quick_act shows that
 -- it is the word-by-word action, for every disk and every action.
-use Rattle.std.specs.Prelude.{ℕ, ◌+◌, List, ltb}
+use Rattle.std.specs.Prelude.{ℕ, ◌+◌, List, ltb, Option, Some, None}
 use Rattle.base.specs.Choice.{pick, within}
 use Rattle.block.specs.Words.{word_at, word_put}
+use Rattle.face.specs.declared.Seen.{Seen}
 use Rattle.face.specs.Face.{with_transfer, next_word, next_password_word}
 use Rattle.face.specs.Reads.{seen, read_register, line_of}
 use Rattle.face.specs.Writes.{put_register}
@@ -12,30 +13,28 @@ use Rattle.face.specs.declared.Hot.{Hot}
 use Rattle.face.specs.declared.Action.{Action}
 use Rattle.face.specs.declared.Action.TheVariants.{ReadRegister, WriteRegister, ReadWord, WriteWord, HardwareReset, PowerOn, Line}
 use Rattle.face.specs.declared.Answer.TheVariants.{Done}
-use Rattle.face.specs.declared.Quick.{Quick}
-use Rattle.face.specs.declared.Quick.TheVariants.{Settles, Slow}
 
 -- the transfer goes on to its next word
-abbrev pub goes_on : Hot → Transfer → ℕ → Quick
-goes_on h t v = Settles (seen (with_transfer h t) Done v)
+abbrev pub goes_on : Hot → Transfer → ℕ → Option Seen
+goes_on h t v = Some (seen (with_transfer h t) Done v)
 
 -- a word is read that is not its block's last
-unfoldable pub quick_read_of : Hot → List ℕ → Transfer → Quick
-quick_read_of h b Idle = Slow
-quick_read_of h b (Reading r) = pick (ltb r.word 255) (goes_on h (Reading (next_word r)) (word_at b r.word)) Slow
-quick_read_of h b (Writing r) = Slow
-quick_read_of h b (ReadingBuffer n) = pick (ltb n 255) (goes_on h (ReadingBuffer (n + 1)) (word_at b n)) Slow
-quick_read_of h b (WritingBuffer n) = Slow
-quick_read_of h b (TakingPassword p) = Slow
+unfoldable pub quick_read_of : Hot → List ℕ → Transfer → Option Seen
+quick_read_of h b Idle = None
+quick_read_of h b (Reading r) = pick (ltb r.word 255) (goes_on h (Reading (next_word r)) (word_at b r.word)) None
+quick_read_of h b (Writing r) = None
+quick_read_of h b (ReadingBuffer n) = pick (ltb n 255) (goes_on h (ReadingBuffer (n + 1)) (word_at b n)) None
+quick_read_of h b (WritingBuffer n) = None
+quick_read_of h b (TakingPassword p) = None
 
 -- a word is written that is not its block's last
-unfoldable pub quick_write_of : Hot → Transfer → Quick
-quick_write_of h Idle = Slow
-quick_write_of h (Reading r) = Slow
-quick_write_of h (Writing r) = pick (ltb r.word 255) (goes_on h (Writing (next_word r)) 0) Slow
-quick_write_of h (ReadingBuffer n) = Slow
-quick_write_of h (WritingBuffer n) = pick (ltb n 255) (goes_on h (WritingBuffer (n + 1)) 0) Slow
-quick_write_of h (TakingPassword p) = pick (ltb p.word 255) (goes_on h (TakingPassword (next_password_word p)) 0) Slow
+unfoldable pub quick_write_of : Hot → Transfer → Option Seen
+quick_write_of h Idle = None
+quick_write_of h (Reading r) = None
+quick_write_of h (Writing r) = pick (ltb r.word 255) (goes_on h (Writing (next_word r)) 0) None
+quick_write_of h (ReadingBuffer n) = None
+quick_write_of h (WritingBuffer n) = pick (ltb n 255) (goes_on h (WritingBuffer (n + 1)) 0) None
+quick_write_of h (TakingPassword p) = pick (ltb p.word 255) (goes_on h (TakingPassword (next_password_word p)) 0) None
 
 -- the buffer with that word
 unfoldable pub quick_write_buffer : List ℕ → ℕ → Transfer → List ℕ
@@ -47,18 +46,18 @@ quick_write_buffer b w (WritingBuffer n) = pick (ltb n 255) (word_put b n w) b
 quick_write_buffer b w (TakingPassword p) = pick (ltb p.word 255) (word_put b p.word w) b
 
 -- a write to one of registers 1 to 6
-unfoldable pub quick_put_of : Hot → ℕ → ℕ → Quick
-quick_put_of h n v = pick (within 1 6 n) (Settles (seen (put_register h n v) Done 0)) Slow
+unfoldable pub quick_put_of : Hot → ℕ → ℕ → Option Seen
+quick_put_of h n v = pick (within 1 6 n) (Some (seen (put_register h n v) Done 0)) None
 
 -- what the hot part and the buffer settle
-unfoldable pub quick_of : Hot → List ℕ → Action → Quick
-quick_of h b (ReadRegister n) = Settles (read_register h n)
+unfoldable pub quick_of : Hot → List ℕ → Action → Option Seen
+quick_of h b (ReadRegister n) = Some (read_register h n)
 quick_of h b (WriteRegister n v) = quick_put_of h n v
 quick_of h b ReadWord = quick_read_of h b h.transfer
 quick_of h b (WriteWord w) = quick_write_of h h.transfer
-quick_of h b HardwareReset = Slow
-quick_of h b PowerOn = Slow
-quick_of h b Line = Settles (seen h Done (line_of h))
+quick_of h b HardwareReset = None
+quick_of h b PowerOn = None
+quick_of h b Line = Some (seen h Done (line_of h))
 
 -- and what they leave in the buffer
 unfoldable pub quick_buffer : Hot → List ℕ → Action → List ℕ

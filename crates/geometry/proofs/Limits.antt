@@ -1,14 +1,14 @@
 -- A geometry is made exactly of counts within the limits, and its capacity is from 1 to the ceilings' product.
+use Rattle.std.specs.Prelude.{Some, None}
 use Prim.Native.Nat.{ℕ, ◌≤◌, ◌<◌, ◌^◌}
 use native.Mathlib.Nat.{mul-le-mul, one-le-mul}
 use native.Mathlib.Omega.{arith}
 use mathlib.Core.Bool.{Bool, true, false}
 use mathlib.Core.Path.{◌≡◌, refl}
 use Rattle.base.specs.Choice.{pick, within}
-use Rattle.base.proofs.Tests.{zero≢one, both_true, within_low, within_high, within_true}
+use Rattle.base.proofs.Tests.{both_true, within_low, within_high, within_true}
 use Rattle.geometry.specs.Geometry.{max_cylinders, max_heads, max_sectors, max_capacity, geometry_fits, geometry_of, checked_of, capacity_of}
 use Rattle.geometry.specs.declared.Geometry.{Geometry}
-use Rattle.geometry.specs.declared.Checked.TheVariants.{Within, OutsideLimits}
 
 -- each count is from 1 to its ceiling
 pub record Limits (c h s : ℕ) : Type 0 where
@@ -43,24 +43,24 @@ limits_fit g l =
     )
 
 -- what is made has the counts that were asked for
-pub checked_within : (c h s : ℕ) (g : Geometry) → checked_of c h s ≡ Within g
+pub checked_within : (c h s : ℕ) (g : Geometry) → checked_of c h s ≡ Some g
     → (g ≡ geometry_of c h s) × Limits c h s
 unfolding checked_of
 checked_within c h s g e = go (geometry_fits (geometry_of c h s)) refl e
   where
     go : (b : Bool) → geometry_fits (geometry_of c h s) ≡ b
-        → pick b (Within (geometry_of c h s)) OutsideLimits ≡ Within g
+        → pick b (Some (geometry_of c h s)) None ≡ Some g
         → (g ≡ geometry_of c h s) × Limits c h s
     go true p q = (cc, fits_limits (geometry_of c h s) p)
-    go false p q = absurd (zero≢one (cc))
+    go false p q = cc
 
 -- what is refused is outside the limits
-pub checked_outside : (c h s : ℕ) → checked_of c h s ≡ OutsideLimits → Limits c h s → ⊥
+pub checked_outside : (c h s : ℕ) → checked_of c h s ≡ None → Limits c h s → ⊥
 unfolding checked_of
 checked_outside c h s e l =
     let f = limits_fit (geometry_of c h s) l in
-    let q : Within (geometry_of c h s) ≡ OutsideLimits = simp f at e in
-    zero≢one (cc)
+    let q : Some (geometry_of c h s) ≡ None = simp f at e in
+    cc
 
 pub capacity_limits : (g : Geometry) → geometry_fits g ≡ true → (1 ≤ capacity_of g) × (capacity_of g ≤ max_capacity)
 unfolding capacity_of max_capacity

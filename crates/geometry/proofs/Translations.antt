@@ -1,4 +1,5 @@
 -- Which translations 91h makes: the counts asked for, as many cylinders as the capacity holds, and never more sectors than the disk has.
+use Rattle.std.specs.Prelude.{Option, Some, None}
 use Prim.Native.Nat.{ℕ, min, ◌+◌, ◌-◌, ◌*◌, ◌/◌, ◌≤◌, ◌<◌}
 use native.Mathlib.Nat.{mul-le-mul_right, mul-pos, min-le_left, min-le_right, min-eq_left, div-mul-le_self, lt-div-mul-add, mul_assoc, mul-div_cancel, le_trans, add-mul}
 use native.Mathlib.Omega.{arith}
@@ -8,13 +9,11 @@ use mathlib.Core.Logic.{◌⊎◌, inl, inr}
 use lib.Dec.{eqb}
 use borrow.Author.Tests.{eq-eqb, ne_eqb, eqb-true, eqb-false}
 use Rattle.base.specs.Choice.{within}
-use Rattle.base.proofs.Tests.{zero≢one, both_true, within_low, within_high, within_true, false≢true}
+use Rattle.base.proofs.Tests.{both_true, within_low, within_high, within_true, false≢true}
 use Rattle.geometry.specs.Geometry.{max_cylinders, max_heads, geometry_fits, capacity_of}
 use Rattle.geometry.specs.Translation.{factory_of, heads_asked, cylinders_for, translation_of, initialized_of, same_cylinders, translation_allowed, product_of}
 use Rattle.geometry.specs.declared.Geometry.{Geometry}
 use Rattle.geometry.specs.declared.Translation.{Translation}
-use Rattle.geometry.specs.declared.Initialized.{Initialized}
-use Rattle.geometry.specs.declared.Initialized.TheVariants.{To, Aborted}
 use Rattle.geometry.proofs.Limits.{fits_limits}
 
 -- t is what 91h makes of h heads and s sectors
@@ -27,11 +26,11 @@ pub record Asked (g : Geometry) (h s : ℕ) (t : Translation) : Type 0 where
 
 -- 91h aborts for one of two reasons, or makes what was asked for
 record Aborts (g : Geometry) (s head : ℕ) : Type 0 where
-  is : initialized_of g s head ≡ Aborted
+  is : initialized_of g s head ≡ None
   reason : (s ≡ 0) ⊎ (cylinders_for g (heads_asked head) s ≡ 0)
 
 record Makes (g : Geometry) (s head : ℕ) : Type 0 where
-  is : initialized_of g s head ≡ To (translation_of g (heads_asked head) s)
+  is : initialized_of g s head ≡ Some (translation_of g (heads_asked head) s)
   some_sectors : 1 ≤ s
   some_cylinders : 1 ≤ cylinders_for g (heads_asked head) s
 
@@ -47,30 +46,30 @@ initialized g s head = go (eqb s 0) (eqb (cylinders_for g (heads_asked head) s) 
         let v : cylinders_for g (heads_asked head) s ≡ 0 → ⊥ = eqb-false _ 0 q in
         inr (record { is = rw (p, q); some_sectors = omega arith; some_cylinders = omega arith })
 
-pub initialized_to : (g : Geometry) (s head : ℕ) (t : Translation) → initialized_of g s head ≡ To t → Asked g (heads_asked head) s t
+pub initialized_to : (g : Geometry) (s head : ℕ) (t : Translation) → initialized_of g s head ≡ Some t → Asked g (heads_asked head) s t
 initialized_to g s head t e = go (initialized g s head)
   where
     go : Aborts g s head ⊎ Makes g s head → Asked g (heads_asked head) s t
-    go (inl x) = let a = x.is in absurd (zero≢one (cc))
+    go (inl x) = let a = x.is in cc
     go (inr x) =
         let a = x.is in
         let m : translation_of g (heads_asked head) s ≡ t = cc in
         record { heads = cc; sectors = cc; cylinders = cc; some_sectors = x.some_sectors; some_cylinders = x.some_cylinders }
 
-pub initialized_aborted : (g : Geometry) (s head : ℕ) → initialized_of g s head ≡ Aborted → (s ≡ 0) ⊎ (cylinders_for g (heads_asked head) s ≡ 0)
+pub initialized_aborted : (g : Geometry) (s head : ℕ) → initialized_of g s head ≡ None → (s ≡ 0) ⊎ (cylinders_for g (heads_asked head) s ≡ 0)
 initialized_aborted g s head e = go (initialized g s head)
   where
     go : Aborts g s head ⊎ Makes g s head → (s ≡ 0) ⊎ (cylinders_for g (heads_asked head) s ≡ 0)
     go (inl x) = x.reason
-    go (inr x) = let a = x.is in absurd (zero≢one (cc))
+    go (inr x) = let a = x.is in cc
 
 -- and what is asked for with some sectors and some cylinders is made
-pub to_initialized : (g : Geometry) (s head : ℕ) (t : Translation) → Asked g (heads_asked head) s t → initialized_of g s head ≡ To t
+pub to_initialized : (g : Geometry) (s head : ℕ) (t : Translation) → Asked g (heads_asked head) s t → initialized_of g s head ≡ Some t
 unfolding initialized_of
 to_initialized g s head t a =
     let u : s ≡ 0 → ⊥ = λ q. absent a.some_sectors q in
     let v : cylinders_for g (heads_asked head) s ≡ 0 → ⊥ = λ q. absent a.some_cylinders q in
-    let m : To (translation_of g (heads_asked head) s) ≡ To t = rw (← a.cylinders, ← a.heads, ← a.sectors) in
+    let m : Some (translation_of g (heads_asked head) s) ≡ Some t = rw (← a.cylinders, ← a.heads, ← a.sectors) in
     simp (ne_eqb s 0 u, ne_eqb (cylinders_for g (heads_asked head) s) 0 v) m
   where
     absent : {n : ℕ} → 1 ≤ n → n ≡ 0 → ⊥
@@ -95,28 +94,28 @@ allowed_asked g t e = (low, (high, go (initialized_of g t.sectors (t.heads - 1))
     high : t.heads ≤ 16
     high = within_high _ _ _ b.0
 
-    go : (i : Initialized) → initialized_of g t.sectors (t.heads - 1) ≡ i → same_cylinders t i ≡ true → Asked g t.heads t.sectors t
-    go (To made) p q =
+    go : (i : Option Translation) → initialized_of g t.sectors (t.heads - 1) ≡ i → same_cylinders t i ≡ true → Asked g t.heads t.sectors t
+    go (Some made) p q =
         let a = rw (own_nibble t.heads low high) at (initialized_to g t.sectors (t.heads - 1) made p) in
         let c : made.cylinders ≡ t.cylinders = eqb-true _ _ q in
         record { heads = refl; sectors = refl; cylinders = sym c ∙ a.cylinders; some_sectors = a.some_sectors; some_cylinders = a.some_cylinders }
-    go Aborted p q = absurd (false≢true q)
+    go None p q = absurd (false≢true q)
 
 pub asked_allowed : (g : Geometry) (t : Translation) → 1 ≤ t.heads → t.heads ≤ 16 → Asked g t.heads t.sectors t
     → translation_allowed g t ≡ true
 unfolding translation_allowed
 asked_allowed g t low high a =
-    let i : initialized_of g t.sectors (t.heads - 1) ≡ To t =
+    let i : initialized_of g t.sectors (t.heads - 1) ≡ Some t =
     to_initialized g t.sectors (t.heads - 1) t (rw (own_nibble t.heads low high) a) in
     simp (within_true 1 16 t.heads low high, i, eq-eqb t.cylinders t.cylinders refl)
 
 -- so "one that 91h allows" is: 91h makes it of some Sector Count and Device/Head
-pub allowed_made : (g : Geometry) (t : Translation) → translation_allowed g t ≡ true → initialized_of g t.sectors (t.heads - 1) ≡ To t
+pub allowed_made : (g : Geometry) (t : Translation) → translation_allowed g t ≡ true → initialized_of g t.sectors (t.heads - 1) ≡ Some t
 allowed_made g t e =
     let a = allowed_asked g t e in
     to_initialized g t.sectors (t.heads - 1) t (rw (own_nibble t.heads a.0 a.1.0) a.1.1)
 
-pub made_allowed : (g : Geometry) (s head : ℕ) (t : Translation) → initialized_of g s head ≡ To t → translation_allowed g t ≡ true
+pub made_allowed : (g : Geometry) (s head : ℕ) (t : Translation) → initialized_of g s head ≡ Some t → translation_allowed g t ≡ true
 made_allowed g s head t e =
     let a = initialized_to g s head t e in
     let c : t.cylinders ≡ cylinders_for g t.heads t.sectors = a.cylinders ∙ ap₂ (cylinders_for g) (sym a.heads) (sym a.sectors) in

@@ -1,9 +1,7 @@
 -- The factory geometry (document 01, "The disk and its three lives").
-use Rattle.std.specs.Prelude.{ℕ, ◌*◌, Bool, false}
+use Rattle.std.specs.Prelude.{ℕ, ◌*◌, Bool, false, Option, Some, None}
 use Rattle.base.specs.Choice.{pick, within}
 use Rattle.geometry.specs.declared.Geometry.{Geometry}
-use Rattle.geometry.specs.declared.Checked.{Checked}
-use Rattle.geometry.specs.declared.Checked.TheVariants.{Within, OutsideLimits}
 
 -- "cylinders C 1 to 1,024"
 unfoldable pub max_cylinders : ℕ
@@ -33,8 +31,8 @@ abbrev pub geometry_of : ℕ → ℕ → ℕ → Geometry
 geometry_of c h s = record { cylinders = c; heads = h; sectors = s }
 
 -- "A geometry is made from three counts", or they are outside the limits
-unfoldable pub checked_of : ℕ → ℕ → ℕ → Checked
-checked_of c h s = pick (geometry_fits (geometry_of c h s)) (Within (geometry_of c h s)) OutsideLimits
+unfoldable pub checked_of : ℕ → ℕ → ℕ → Option Geometry
+checked_of c h s = pick (geometry_fits (geometry_of c h s)) (Some (geometry_of c h s)) None
 
 -- "Capacity is C x H x S"
 unfoldable pub capacity_of : Geometry → ℕ

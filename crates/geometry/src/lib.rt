@@ -6,18 +6,11 @@ ghost use Rattle.geometry.specs.Geometry.{geometry_fits, checked_of, capacity_of
 ghost use Rattle.geometry.specs.Translation.{factory_of, initialized_of, cylinders_for, translation_allowed, product_of};
 
 // The factory's three counts. A record of this type may hold any counts: `fits` says whether it is a geometry.
-#[derive(Clone, Copy)]
+#[derive(Clone, Copy, Default)]
 pub struct Geometry {
     pub cylinders: u16,
     pub heads: u8,
     pub sectors: u8,
-}
-
-// Three counts, checked.
-#[derive(Clone, Copy)]
-pub enum Checked {
-    Within(Geometry),
-    OutsideLimits,
 }
 
 // How CHS addresses are counted: cylinders, heads and sectors per track in force.
@@ -26,13 +19,6 @@ pub struct Translation {
     pub cylinders: u16,
     pub heads: u8,
     pub sectors: u8,
-}
-
-// What INITIALIZE DEVICE PARAMETERS (91h) makes of its two registers.
-#[derive(Clone, Copy)]
-pub enum Initialized {
-    To(Translation),
-    Aborted,
 }
 
 impl Geometry {
@@ -47,18 +33,14 @@ impl Geometry {
     pub fn fits(self) -> bool
         ensures { result ≡ geometry_fits self }
     {
-        if base::within(1, Self::MAX_CYLINDERS, self.cylinders) {
-            if base::within(1, Self::MAX_HEADS as u16, self.heads as u16) {
-                return base::within(1, Self::MAX_SECTORS as u16, self.sectors as u16);
-            }
-            return false;
-        }
-        false
+        base::within(1, Self::MAX_CYLINDERS, self.cylinders)
+            && base::within(1, Self::MAX_HEADS as u16, self.heads as u16)
+            && base::within(1, Self::MAX_SECTORS as u16, self.sectors as u16)
     }
 
     // The geometry of three counts, where they are within the limits.
     #[tactic(auto, unfolding(crate::specs::Geometry::checked_of))]
-    pub fn new(cylinders: u16, heads: u8, sectors: u8) -> Checked
+    pub fn new(cylinders: u16, heads: u8, sectors: u8) -> Option<Geometry>
         ensures { result ≡ checked_of cylinders heads sectors }
     {
         let geometry = Geometry {
@@ -66,11 +48,7 @@ impl Geometry {
             heads,
             sectors,
         };
-        if geometry.fits() {
-            Checked::Within(geometry)
-        } else {
-            Checked::OutsideLimits
-        }
+        geometry.fits().then_some(geometry)
     }
 
     // How many sectors the disk has.
@@ -99,23 +77,23 @@ impl Geometry {
         ensures { result ≡ cylinders_for self heads sectors }
     {
         let whole = self.capacity() / ((heads as u32) * (sectors as u32));
-        if whole < 65535 { whole as u16 } else { 65535 }
+        whole.min(65535) as u16
     }
 
-    // 91h, from Sector Count and Device/Head.
+    // What INITIALIZE DEVICE PARAMETERS (91h) makes of Sector Count and Device/Head; else it aborts.
     #[tactic(auto, unfolding(crate::specs::Translation::initialized_of))]
-    pub fn initialize(self, count: u8, head: u8) -> Initialized
+    pub fn initialize(self, count: u8, head: u8) -> Option<Translation>
         ensures { result ≡ initialized_of self count head }
     {
         if count == 0 {
-            return Initialized::Aborted;
+            return None;
         }
         let heads = head % 16 + 1;
         let cylinders = self.cylinders_for(heads, count);
         if cylinders == 0 {
-            return Initialized::Aborted;
+            return None;
         }
-        Initialized::To(Translation {
+        Some(Translation {
             cylinders,
             heads,
             sectors: count,
@@ -129,13 +107,10 @@ impl Translation {
     pub fn allowed(self, geometry: Geometry) -> bool
         ensures { result ≡ translation_allowed geometry self }
     {
-        if base::within(1, 16, self.heads as u16) {
-            let Initialized::To(made) = geometry.initialize(self.sectors, self.heads - 1) else {
-                return false;
-            };
-            return made.cylinders == self.cylinders;
-        }
-        false
+        base::within(1, 16, self.heads as u16)
+            && geometry
+                .initialize(self.sectors, self.heads - 1)
+                .is_some_and(|made| made.cylinders == self.cylinders)
     }
 
     // How many sectors CHS addresses reach.

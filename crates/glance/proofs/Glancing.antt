@@ -5,9 +5,11 @@ use mathlib.Core.Path.{◌≡◌, refl, ap, ◌∙◌}
 use mathlib.Core.List.{List}
 use lib.Dec.{ltb, eqb}
 use borrow.Author.Tests.{eqb-true}
+use Rattle.std.specs.Prelude.{Option, Some, None}
 use Rattle.base.specs.Choice.{pick}
 use Rattle.base.proofs.Tests.{pick_both}
 use Rattle.block.specs.Words.{word_at, word_put}
+use Rattle.face.specs.declared.Seen.{Seen}
 use Rattle.face.specs.Reads.{is_idle, seen, status_of, line_of, read_register}
 use Rattle.face.specs.declared.Hot.{Hot}
 use Rattle.face.specs.declared.Transfer.{Transfer}
@@ -15,14 +17,11 @@ use Rattle.face.specs.declared.Transfer.TheVariants.{Idle, Reading, Writing, Rea
 use Rattle.face.specs.declared.Action.{Action}
 use Rattle.face.specs.declared.Action.TheVariants.{ReadRegister, WriteRegister, ReadWord, WriteWord, HardwareReset, PowerOn, Line}
 use Rattle.face.specs.declared.Answer.TheVariants.{Done}
-use Rattle.face.specs.declared.Quick.{Quick}
-use Rattle.face.specs.declared.Quick.TheVariants.{Settles, Slow}
 use Rattle.fastpath.specs.Quick.{quick_read_of, quick_write_of, quick_write_buffer, quick_of, quick_buffer}
 use Rattle.fastpath.specs.Dev.{dev_set, unanswered_of, ignored_of, quick_alone, quick_alone_buffer}
 use Rattle.glance.specs.Places.{place_of, placed_at, hot_with, hot_at}
-use Rattle.glance.specs.Glances.{takes_in, read_glance, write_glance, write_glance_buffer, status_glance, register_glance, glance_of, glance_buffer}
-use Rattle.glance.specs.declared.Glance.{Glance}
-use Rattle.glance.specs.declared.Glance.TheVariants.{Shows, Beyond}
+use Rattle.glance.specs.Glances.{shows, takes_in, read_glance, write_glance, write_glance_buffer, status_glance, register_glance, glance_of, glance_buffer}
+use Rattle.glance.specs.declared.Shown.{Shown}
 
 -- what is held apart of a hot part and put back makes it again
 pub hot_same : (h : Hot) → hot_at h (place_of h.transfer) h.signals.raised ≡ h
@@ -37,23 +36,23 @@ hot_same h = go h.transfer
     go (TakingPassword b) = refl
 
 -- what a glance showed, put in place; else what the fast path gives
-abbrev glance_then : Hot → Transfer → Glance → Quick → Quick
-glance_then h t (Shows word raised v) quick = Settles (seen (hot_with h t word raised) Done v)
-glance_then h t Beyond quick = quick
+abbrev glance_then : Hot → Transfer → Option Shown → Option Seen → Option Seen
+glance_then h t (Some s) quick = Some (seen (hot_with h t s.word s.raised) Done s.value)
+glance_then h t None quick = quick
 
--- what is shown with Slow in the fast path's place holds with the fast path itself: a glance that shows needs neither
-quick_again : (q : Quick) (h : Hot) (t : Transfer) (g : Glance) → q ≡ glance_then h t g Slow → q ≡ glance_then h t g q
-quick_again q h t (Shows word raised v) e = e
-quick_again q h t Beyond e = refl
+-- what is shown with None in the fast path's place holds with the fast path itself: a glance that shows needs neither
+quick_again : (q : Option Seen) (h : Hot) (t : Transfer) (g : Option Shown) → q ≡ glance_then h t g None → q ≡ glance_then h t g q
+quick_again q h t (Some s) e = e
+quick_again q h t None e = refl
 
 -- a word that is not its block's last, which `x` says
 glance_word : (x : Bool) (h : Hot) (t : Transfer) (word : ℕ) (raised : Bool) (v : ℕ)
-    → pick x (Settles (seen (hot_with h t (word + 1) raised) Done v)) Slow ≡ glance_then h t (pick x (Shows (word + 1) raised v) Beyond) Slow
+    → pick x (Some (seen (hot_with h t (word + 1) raised) Done v)) None ≡ glance_then h t (pick x (Some (shows (word + 1) raised v)) None) None
 glance_word true h t word raised v = refl
 glance_word false h t word raised v = refl
 
 glance_read : (h : Hot) (t : Transfer) (word : ℕ) (raised : Bool) (b : List ℕ)
-    → quick_read_of (hot_with h t word raised) b (placed_at t word) ≡ glance_then h t (read_glance t word raised b) Slow
+    → quick_read_of (hot_with h t word raised) b (placed_at t word) ≡ glance_then h t (read_glance t word raised b) None
 unfolding quick_read_of read_glance
 glance_read h Idle word raised b = refl
 glance_read h (Reading r) word raised b = glance_word (ltb word 255) h (Reading r) word raised (word_at b word)
@@ -63,7 +62,7 @@ glance_read h (WritingBuffer n) word raised b = refl
 glance_read h (TakingPassword p) word raised b = refl
 
 glance_write : (h : Hot) (t : Transfer) (word : ℕ) (raised : Bool)
-    → quick_write_of (hot_with h t word raised) (placed_at t word) ≡ glance_then h t (write_glance t word raised) Slow
+    → quick_write_of (hot_with h t word raised) (placed_at t word) ≡ glance_then h t (write_glance t word raised) None
 unfolding quick_write_of write_glance
 glance_write h Idle word raised = refl
 glance_write h (Reading r) word raised = refl
@@ -128,10 +127,10 @@ glance_quick h word raised b PowerOn = refl
 glance_quick h word raised b Line = refl
 
 -- the fast path where a glance shows the action
-pub glance_settles : (h : Hot) (word : ℕ) (raised : Bool) (b : List ℕ) (a : Action) (next : ℕ) (after : Bool) (v : ℕ)
-    → glance_of h word raised b a ≡ Shows next after v → quick_alone (hot_at h word raised) b a ≡ Settles (seen (hot_at h next after) Done v)
-glance_settles h word raised b a next after v e =
-    glance_quick h word raised b a ∙ ap (λ (g : Glance). glance_then h h.transfer g (quick_alone (hot_at h word raised) b a)) e
+pub glance_settles : (h : Hot) (word : ℕ) (raised : Bool) (b : List ℕ) (a : Action) (s : Shown)
+    → glance_of h word raised b a ≡ Some s → quick_alone (hot_at h word raised) b a ≡ Some (seen (hot_at h s.word s.raised) Done s.value)
+glance_settles h word raised b a s e =
+    glance_quick h word raised b a ∙ ap (λ (g : Option Shown). glance_then h h.transfer g (quick_alone (hot_at h word raised) b a)) e
 
 -- ---- the buffer
 
@@ -156,13 +155,13 @@ glance_buffer_law h word raised b PowerOn = refl
 glance_buffer_law h word raised b Line = refl
 
 -- an action beyond a glance has left the buffer
-abbrev beyond_leaves : Glance → List ℕ → List ℕ → List ℕ
-beyond_leaves (Shows word raised v) b changed = changed
-beyond_leaves Beyond b changed = b
+abbrev beyond_leaves : Option Shown → List ℕ → List ℕ → List ℕ
+beyond_leaves (Some s) b changed = changed
+beyond_leaves None b changed = b
 
-same_leaves : (g : Glance) (b : List ℕ) → b ≡ beyond_leaves g b b
-same_leaves (Shows word raised v) b = refl
-same_leaves Beyond b = refl
+same_leaves : (g : Option Shown) (b : List ℕ) → b ≡ beyond_leaves g b b
+same_leaves (Some s) b = refl
+same_leaves None b = refl
 
 write_leaves : (t : Transfer) (word : ℕ) (raised : Bool) (b : List ℕ) (w : ℕ)
     → write_glance_buffer t word b w ≡ beyond_leaves (write_glance t word raised) b (write_glance_buffer t word b w)
@@ -170,7 +169,7 @@ unfolding write_glance write_glance_buffer
 write_leaves t word raised b w = go (takes_in t) (ltb word 255)
   where
     go : (x y : Bool) → pick x (pick y (word_put b word w) b) b
-        ≡ beyond_leaves (pick x (pick y (Shows (word + 1) raised 0) Beyond) Beyond) b (pick x (pick y (word_put b word w) b) b)
+        ≡ beyond_leaves (pick x (pick y (Some (shows (word + 1) raised 0)) None) None) b (pick x (pick y (word_put b word w) b) b)
     go true true = refl
     go true false = refl
     go false y = refl
@@ -186,5 +185,5 @@ leaves h word raised b HardwareReset = refl
 leaves h word raised b PowerOn = refl
 leaves h word raised b Line = refl
 
-pub glance_leaves : (h : Hot) (word : ℕ) (raised : Bool) (b : List ℕ) (a : Action) → glance_of h word raised b a ≡ Beyond → glance_buffer h word b a ≡ b
-glance_leaves h word raised b a e = leaves h word raised b a ∙ ap (λ (g : Glance). beyond_leaves g b (glance_buffer h word b a)) e
+pub glance_leaves : (h : Hot) (word : ℕ) (raised : Bool) (b : List ℕ) (a : Action) → glance_of h word raised b a ≡ None → glance_buffer h word b a ≡ b
+glance_leaves h word raised b a e = leaves h word raised b a ∙ ap (λ (g : Option Shown). beyond_leaves g b (glance_buffer h word b a)) e

@@ -1,5 +1,4 @@
 pub mod Filling
-pub mod Ranges
 pub mod ReadBack
 pub mod Texts
 pub mod Listed

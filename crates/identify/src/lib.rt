@@ -14,10 +14,7 @@ use settled::Settled;
 fn weighed(set: bool, weight: u16) -> u16
     ensures { (result ≡ pick set weight 0) × (result ≤ weight) }
 {
-    if set {
-        return weight;
-    }
-    0
+    if set { weight } else { 0 }
 }
 
 // Word 128.
@@ -25,13 +22,12 @@ fn weighed(set: bool, weight: u16) -> u16
 fn security_word(security: Security) -> u16
     ensures { result ≡ security_word security }
 {
-    let lock = security.lock;
-    let enabled = weighed(security.enabled, 0x0002);
-    let locked = weighed(lock.locked(), 0x0004);
-    let frozen = weighed(lock.frozen(), 0x0008);
-    let exhausted = weighed(security.exhausted(), 0x0010);
-    let maximum = weighed(security.maximum, 0x0100);
-    0x0001 + enabled + locked + frozen + exhausted + maximum
+    0x0001
+        + weighed(security.enabled, 0x0002)
+        + weighed(security.lock.locked(), 0x0004)
+        + weighed(security.lock.frozen(), 0x0008)
+        + weighed(security.exhausted(), 0x0010)
+        + weighed(security.maximum, 0x0100)
 }
 
 fn low_word(number: u32) -> u16
@@ -52,9 +48,8 @@ fn text_word(text: &[u8], n: u16) -> u16
     requires { 2 * n + 1 < length text.now }
     ensures { result ≡ text_word text.now n }
 {
-    let first = 2 * (n as usize);
-    let second = first + 1;
-    base::pair(text[second], text[first])
+    let at = 2 * (n as usize);
+    u16::from_be_bytes([text[at], text[at + 1]])
 }
 
 // Word n where it is no text.
@@ -62,19 +57,22 @@ fn text_word(text: &[u8], n: u16) -> u16
 fn number_word(settled: Settled, n: u16) -> u16
     ensures { result ≡ number_word settled n }
 {
-    let geometry = settled.geometry;
-    let translation = settled.translation;
-    let security = settled.security;
+    let Settled {
+        geometry,
+        translation,
+        security,
+        ..
+    } = settled;
     match n {
         0 => 0x0040,
         1 => geometry.cylinders,
-        3 => geometry.heads as u16,
-        6 => geometry.sectors as u16,
+        3 => u16::from(geometry.heads),
+        6 => u16::from(geometry.sectors),
         49 => 0x0200,
         53 => 0x0001,
         54 => translation.cylinders,
-        55 => translation.heads as u16,
-        56 => translation.sectors as u16,
+        55 => u16::from(translation.heads),
+        56 => u16::from(translation.sectors),
         57 => low_word(translation.product()),
         58 => high_word(translation.product()),
         60 => low_word(geometry.capacity()),
@@ -88,24 +86,16 @@ fn number_word(settled: Settled, n: u16) -> u16
 }
 
 // Word n.
-#[tactic(auto, unfolding(crate::specs::Words::identify_word))]
+#[tactic(auto, unfolding(crate::specs::Words::identify_word, base::specs::Choice::within))]
 fn identify_word(settled: Settled, n: u16) -> u16
     ensures { result ≡ identify_word settled n }
 {
-    let identity = settled.identity;
-    let serial = identity.serial;
-    let firmware = identity.firmware;
-    let model = identity.model;
-    if base::within(10, 19, n) {
-        return text_word(&serial, n - 10);
+    match n {
+        10..=19 => text_word(&settled.identity.serial, n - 10),
+        23..=26 => text_word(&settled.identity.firmware, n - 23),
+        27..=46 => text_word(&settled.identity.model, n - 27),
+        _ => number_word(settled, n),
     }
-    if base::within(23, 26, n) {
-        return text_word(&firmware, n - 23);
-    }
-    if base::within(27, 46, n) {
-        return text_word(&model, n - 27);
-    }
-    number_word(settled, n)
 }
 
 // The block that IDENTIFY DEVICE (ECh) hands over.
@@ -113,11 +103,8 @@ pub fn identify(settled: Settled) -> [u8; 512]
     ensures { result ≡ identify_of settled }
 {
     let mut block = [0u8; 512];
-    let mut told: u16 = 0;
-    while told < 256 {
-        let word = identify_word(settled, told);
-        block::put_word(&mut block, told as u8, word);
-        told += 1;
+    for n in 0..256 {
+        block::put_word(&mut block, n as u8, identify_word(settled, n));
     }
     block
 }

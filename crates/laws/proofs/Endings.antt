@@ -6,7 +6,7 @@ use Prim.Native.Nat.{ℕ, ◌+◌, ◌-◌, ◌*◌, ◌≤◌, ◌<◌}
 use native.Mathlib.Omega.{arith}
 use lib.Dec.{ltb}
 use borrow.Author.Tests.{ltb-true}
-use Rattle.base.proofs.Tests.{zero≢one, pick_each}
+use Rattle.base.proofs.Tests.{pick_each}
 use Rattle.address.specs.declared.Address.{Address}
 use Rattle.address.specs.declared.Address.TheVariants.{Names, Faults}
 use Rattle.lock.specs.declared.Secrets.{Secrets}
@@ -148,7 +148,7 @@ password_fewer f x b w q =
 
 -- a word that is turned away is no word taken
 refused_not : NoTransfer ≡ Done → ⊥
-refused_not e = zero≢one (cc)
+refused_not e = cc
 
 read_word_fewer : (f : Face) (m : List ℕ) (t : Transfer) → Bytes t → (read_word_as f m t).answer ≡ Done → Fewer (words_left t) (read_word_as f m t).face
 read_word_fewer f m Idle b e = absurd (refused_not e)

@@ -1,4 +1,5 @@
 -- Every action is made of few changes of the face, so whatever each of these keeps, every action keeps.
+use Rattle.std.specs.Prelude.{Option, Some, None}
 use mathlib.Core.Bool.{true, false}
 use mathlib.Core.Path.{◌≡◌, refl}
 use mathlib.Core.List.{List}
@@ -8,8 +9,6 @@ use Rattle.base.specs.Choice.{within}
 use Rattle.base.proofs.Tests.{pick_both, pick_each}
 use Rattle.geometry.specs.Translation.{factory_of, initialized_of}
 use Rattle.geometry.specs.declared.Translation.{Translation}
-use Rattle.geometry.specs.declared.Initialized.{Initialized}
-use Rattle.geometry.specs.declared.Initialized.TheVariants.{To, Aborted}
 use Rattle.successor.specs.Successor.{successor_of}
 use Rattle.address.specs.declared.AddressRegisters.{AddressRegisters}
 use Rattle.address.specs.declared.Address.TheVariants.{Names}
@@ -56,7 +55,7 @@ use Rattle.laws.proofs.Shape.{address_each, not_locked_open}
 -- a property of faces over memory m that each change keeps, but for power-on and judged password blocks; F5h runs only where the disk is not locked
 pub record Lasts (m : List ℕ) (P : Face → Type 0) : Type 0 where
   pub hot : (f : Face) (h : Hot) → P f → P (with_hot f h)
-  pub made : (f : Face) (count head : ℕ) (t : Translation) → initialized_of f.settled.geometry count head ≡ To t → P f → P (with_settled f (with_translation f.settled t))
+  pub made : (f : Face) (count head : ℕ) (t : Translation) → initialized_of f.settled.geometry count head ≡ Some t → P f → P (with_settled f (with_translation f.settled t))
   pub factory : (f : Face) → P f → P (with_settled f (with_translation f.settled (factory_of f.settled.geometry)))
   pub prepared : (f : Face) → P f → P (with_settled f (with_security f.settled (prepared_of f.settled.security)))
   pub unprepared : (f : Face) → P f → P (with_settled f (with_security f.settled (unprepared_of f.settled.security)))
@@ -81,10 +80,10 @@ verify_lasts {m} {P} c f (suc k) at p =
 
 -- ---- commands
 
-initialize_lasts : {m : List ℕ} {P : Face → Type 0} → Lasts m P → (f : Face) (i : Initialized) → initialized_of f.settled.geometry f.hot.regs.count f.hot.regs.at.head ≡ i
+initialize_lasts : {m : List ℕ} {P : Face → Type 0} → Lasts m P → (f : Face) (i : Option Translation) → initialized_of f.settled.geometry f.hot.regs.count f.hot.regs.at.head ≡ i
     → P f → P (initialize_as f i)
-initialize_lasts c f (To t) e p = c.made (with_hot f _) f.hot.regs.count f.hot.regs.at.head t e (c.hot f _ p)
-initialize_lasts c f Aborted e p = c.hot f _ p
+initialize_lasts c f (Some t) e p = c.made (with_hot f _) f.hot.regs.count f.hot.regs.at.head t e (c.hot f _ p)
+initialize_lasts c f None e p = c.hot f _ p
 
 run_lasts : {m : List ℕ} {P : Face → Type 0} → Lasts m P → (f : Face) (k : Command) → runs_in k f.settled.security.lock ≡ true → P f → P (run_of f m k)
 unfolding read_sectors_of write_sectors_of write_at not_found_of verify_sectors_of seek_of recalibrate_of initialize_parameters_of diagnostic_of identify_device_of read_buffer_of write_buffer_of take_password_of erase_prepare_of freeze_lock_of

@@ -1,4 +1,5 @@
 -- Every state reached from setup is in shape: setup's is, and every action keeps it so, DEV's clauses included.
+use Rattle.std.specs.Prelude.{Option, Some, None}
 use mathlib.Core.Bool.{Bool, true, false, not}
 use mathlib.Core.Path.{◌≡◌, refl, sym, ap, ◌∙◌}
 use mathlib.Core.Logic.{◌⊎◌, inl, inr}
@@ -7,13 +8,12 @@ use Prim.Native.Nat.{ℕ, zero, suc, ◌/◌, ◌%◌}
 use lib.Dec.{eqb, ltb}
 use lib.ListN.{length}
 use borrow.Author.Tests.{eqb-true}
+use Rattle.geometry.specs.declared.Translation.{Translation}
 use Rattle.base.specs.Choice.{pick, within}
 use Rattle.base.proofs.Tests.{false≢true, pick_both, pick_each, either_way}
 use Rattle.geometry.specs.Geometry.{geometry_fits}
 use Rattle.geometry.specs.declared.Geometry.{Geometry}
 use Rattle.geometry.specs.Translation.{initialized_of}
-use Rattle.geometry.specs.declared.Initialized.{Initialized}
-use Rattle.geometry.specs.declared.Initialized.TheVariants.{To, Aborted}
 use Rattle.geometry.proofs.Translations.{factory_allowed}
 use Rattle.successor.specs.Successor.{successor_of}
 use Rattle.address.specs.declared.AddressRegisters.{AddressRegisters}
@@ -111,9 +111,9 @@ seek_idle : (f : Face) (a : Address) → is_idle (seek_as f a).hot.transfer ≡ 
 seek_idle f (Names x) = refl
 seek_idle f Faults = refl
 
-initialize_idle : (f : Face) (i : Initialized) → is_idle (initialize_as f i).hot.transfer ≡ true
-initialize_idle f (To t) = refl
-initialize_idle f Aborted = refl
+initialize_idle : (f : Face) (i : Option Translation) → is_idle (initialize_as f i).hot.transfer ≡ true
+initialize_idle f (Some t) = refl
+initialize_idle f None = refl
 
 run_placed : (f : Face) (m : List ℕ) (k : Command) → Placed f.hot.regs.at (run_of f m k)
 unfolding read_sectors_of write_sectors_of verify_sectors_of seek_of recalibrate_of initialize_parameters_of diagnostic_of identify_device_of read_buffer_of write_buffer_of take_password_of erase_prepare_of freeze_lock_of

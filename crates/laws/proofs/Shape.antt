@@ -1,4 +1,5 @@
 -- Every action keeps the disk in shape: each command opens only a transfer that its stations allow, and each word goes on with one or ends it.
+use Rattle.std.specs.Prelude.{Option, Some, None}
 use mathlib.Core.Bool.{Bool, true, false, not}
 use mathlib.Core.Path.{◌≡◌, refl, sym, ap, ◌∙◌}
 use mathlib.Core.List.{List}
@@ -8,8 +9,6 @@ use Rattle.base.specs.Choice.{pick, within}
 use Rattle.base.proofs.Tests.{false≢true, pick_both, pick_each}
 use Rattle.geometry.specs.Translation.{initialized_of, translation_allowed}
 use Rattle.geometry.specs.declared.Translation.{Translation}
-use Rattle.geometry.specs.declared.Initialized.{Initialized}
-use Rattle.geometry.specs.declared.Initialized.TheVariants.{To, Aborted}
 use Rattle.geometry.proofs.Translations.{made_allowed, factory_allowed}
 use Rattle.successor.specs.Successor.{successor_of}
 use Rattle.address.specs.declared.AddressRegisters.{AddressRegisters}
@@ -137,11 +136,11 @@ seek_free : (f : Face) (a : Address) → Running f → Free (seek_as f a)
 seek_free f (Names x) u = record { sound = u.sound; free = u.free; fits = refl }
 seek_free f Faults u = record { sound = u.sound; free = u.free; fits = refl }
 
-initialize_free : (f : Face) (i : Initialized) → initialized_of f.settled.geometry f.hot.regs.count f.hot.regs.at.head ≡ i
+initialize_free : (f : Face) (i : Option Translation) → initialized_of f.settled.geometry f.hot.regs.count f.hot.regs.at.head ≡ i
     → Running f → Free (initialize_as f i)
-initialize_free f (To t) e u =
+initialize_free f (Some t) e u =
     record { sound = translation_kept f.settled t u.sound (made_allowed f.settled.geometry f.hot.regs.count f.hot.regs.at.head t e); free = u.free; fits = refl }
-initialize_free f Aborted e u = record { sound = u.sound; free = u.free; fits = refl }
+initialize_free f None e u = record { sound = u.sound; free = u.free; fits = refl }
 
 -- what the stations told of a lock state
 pub not_locked_open : (l : Lock) → not_locked l ≡ true → is_locked l ≡ false

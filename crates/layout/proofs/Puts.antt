@@ -5,16 +5,17 @@ use Prim.Native.Nat.{ℕ, suc, ◌+◌, ◌≤◌}
 use native.Mathlib.Omega.{arith}
 use lib.ListN.{length, take, drop, set, length-append, drop_of_length-le}
 use lib.Seq.{sets, sets-eq, take-length}
+use borrow.Rule.Slice.PartMut.{put_mid}
+use Rattle.std.proofs.lemmas.Slice.{put_mid-paste}
 use Rattle.face.specs.declared.Transfer.{Transfer}
 use Rattle.face.specs.declared.Transfer.TheVariants.{Idle, Reading, Writing, ReadingBuffer, WritingBuffer, TakingPassword}
 use Rattle.face.specs.declared.Hot.{Hot}
 use Rattle.layout.specs.Bytes.{hot_bytes}
-use Rattle.block.proofs.Copies.{Copied, copied_done}
 
--- a whole piece copied is the piece put
-pub copied_sets : {d s out : List ℕ} {at j : ℕ} → Copied (length s) d s out at 0 j → length s ≤ j → out ≡ sets d at s
-copied_sets {d} {s} {out} {at} {j} c h =
-    copied_done c h ∙ ap (λ (x : List ℕ). take at d ++ x ++ drop (at + length s) d) (take-length s) ∙ sym (sets-eq s d at c.room)
+-- a piece written over as many bytes is the piece put
+pub written_sets : (b s t : List ℕ) (at n : ℕ) → at + length s ≤ length b → n ≡ length s → t ≡ s → put_mid at n b t ≡ sets b at s
+written_sets b s t at n w e f =
+    put_mid-paste at n b t s (length s) f (sym e) refl ∙ ap (λ (x : List ℕ). take at b ++ x ++ drop (at + length s) b) (take-length s) ∙ sym (sets-eq s b at w)
 
 -- a piece put right behind another is both put as one
 pub sets_append : (xs ys l : List ℕ) (i j : ℕ) → i + length xs ≡ j → sets (sets l i xs) j ys ≡ sets l i (xs ++ ys)

@@ -1,17 +1,14 @@
 -- A call over lent bytes is the device's own: how it is let in, what a refusal and new parts leave.
-use Prim.Native.Nat.{ℕ, ◌+◌, ◌*◌, ◌≤◌, ◌<◌}
+use Prim.Native.Nat.{ℕ, ◌+◌, ◌≤◌, ◌<◌}
 use mathlib.Core.Bool.{Bool, true, false}
 use mathlib.Core.Path.{◌≡◌, refl, sym, ap, ◌∙◌}
 use mathlib.Core.List.{List, ◌++◌, append_assoc}
 use native.Mathlib.Omega.{arith}
-use borrow.Author.Tests.{eqb-true, eq-eqb, ne_eqb}
+use borrow.Author.Tests.{eqb-true, ne_eqb}
 use lib.Dec.{eqb}
 use lib.ListN.{length, get_or, drop}
 use lib.Seq.{sets, sets-eq}
-use mir.Syntax.{w8}
-use mir.Val.{Fits}
 use Rattle.base.proofs.Tests.{either_way, false≢true}
-use Rattle.geometry.specs.Geometry.{capacity_of}
 use Rattle.settled.specs.declared.Settled.{Settled}
 use Rattle.face.specs.Reads.{number_of, value_of}
 use Rattle.face.specs.declared.Hot.{Hot}
@@ -23,7 +20,7 @@ use Rattle.device.proofs.Memories.{shaped_memory}
 use Rattle.device.specs.Alone.{shown, alone_of}
 use Rattle.device.specs.Host.{parts_shaped, shaped_of, memory_length, step_of}
 use Rattle.laws.proofs.Steps.{ready_step}
-use Rattle.layout.specs.Stored.{hot_stored, settled_stored, secrets_stored, geometry_stored, device_stored, formed_of}
+use Rattle.layout.specs.Stored.{hot_stored, settled_stored, secrets_stored, device_stored, formed_of}
 use Rattle.layout.specs.Bytes.{hot_bytes, front_bytes, rest_bytes}
 use Rattle.layout.proofs.Puts.{hot_bytes_long, front_over}
 use Rattle.layout.proofs.Back.{formed_clauses, secrets_back, rest_back, state_back}
@@ -38,8 +35,8 @@ pub record LowBytes (b : List ℕ) : Type 0 where
   pub geometry : get_or b 18 0 < 256
   pub translation : get_or b 22 0 < 256
 
-pub low_bytes : (b : List ℕ) → ((i : ℕ) → Fits w8 (get_or b i 0)) → LowBytes b
-low_bytes b fits = record { geometry = omega (arith, fits 18); translation = omega (arith, fits 22) }
+pub low_bytes : (b : List ℕ) → ((i : ℕ) → get_or b i 0 < 256) → LowBytes b
+low_bytes b fits = record { geometry = fits 18; translation = fits 22 }
 
 -- ---- how a call is let in
 
@@ -60,13 +57,13 @@ number_done WrongLength e = absurd (omega arith)
 number_done NoTransfer e = absurd (omega arith)
 number_done SetupRefused e = absurd (omega arith)
 
-pub number_refuses : (a : Answer) → (number_of a ≡ 0 → ⊥) → is_refusal a ≡ true
-number_refuses Done e = absurd (e refl)
-number_refuses NoRegister e = refl
-number_refuses OutOfShape e = refl
-number_refuses WrongLength e = refl
-number_refuses NoTransfer e = refl
-number_refuses SetupRefused e = refl
+pub other_refuses : (a : Answer) → (a ≡ Done → ⊥) → is_refusal a ≡ true
+other_refuses Done e = absurd (e refl)
+other_refuses NoRegister e = refl
+other_refuses OutOfShape e = refl
+other_refuses WrongLength e = refl
+other_refuses NoTransfer e = refl
+other_refuses SetupRefused e = refl
 
 -- the shape test, over the parts as they were read
 parts_same : (b : List ℕ) (s : Settled) (h : Hot) (v : Bool) → s ≡ settled_stored b → h ≡ hot_stored b → parts_shaped s h ≡ v
@@ -78,23 +75,10 @@ pub admission_shape : (b m : List ℕ) (s : Settled) (h : Hot) → formed_of b �
 unfolding admission_of
 admission_shape b m s h f es eh e = let p = parts_same b s h false es eh e in rw (f, p)
 
-pub admission_length : (b m : List ℕ) (s : Settled) (h : Hot) → formed_of b ≡ true → s ≡ settled_stored b → h ≡ hot_stored b
-    → parts_shaped s h ≡ true → (length m ≡ 512 * capacity_of s.geometry → ⊥) → WrongLength ≡ admission_of b m
-unfolding admission_of
-admission_length b m s h f es eh e l =
-    let p = parts_same b s h true es eh e in
-    let q : eqb (length m) (512 * capacity_of (geometry_stored b)) ≡ false =
-    ap (λ (z : Settled). eqb (length m) (512 * capacity_of z.geometry)) (sym es) ∙ ne_eqb _ _ l in
-    rw (f, p, q)
-
-pub admission_done : (b m : List ℕ) (s : Settled) (h : Hot) → formed_of b ≡ true → s ≡ settled_stored b → h ≡ hot_stored b
-    → parts_shaped s h ≡ true → length m ≡ 512 * capacity_of s.geometry → Done ≡ admission_of b m
-unfolding admission_of
-admission_done b m s h f es eh e l =
-    let p = parts_same b s h true es eh e in
-    let q : eqb (length m) (512 * capacity_of (geometry_stored b)) ≡ true =
-    ap (λ (z : Settled). eqb (length m) (512 * capacity_of z.geometry)) (sym es) ∙ eq-eqb _ _ l in
-    rw (f, p, q)
+-- bytes of another number are no device's
+pub other_length : (b m : List ℕ) → (length b ≡ 163 → ⊥) → OutOfShape ≡ admission_of b m
+unfolding admission_of formed_of
+other_length b m k = rw (ne_eqb _ _ k)
 
 pub admitted : (b x m : List ℕ) → admission_of b m ≡ Done → Admitted b x m
 unfolding admission_of shaped_of
@@ -107,13 +91,6 @@ admitted b x m e =
     (λ s. absurd (false≢true (sym (ap is_refusal (rw (f, s) at e))))))
     (λ f. absurd (false≢true (sym (ap is_refusal (rw f at e)))))
 
--- what the code sees of that: the answer's number, 0 or another
-pub zero_admits : (b x m : List ℕ) (a : Answer) (n : ℕ) → a ≡ admission_of b m → n ≡ number_of a → n ≡ 0 → Admitted b x m
-zero_admits b x m a n ea en z = admitted b x m (sym ea ∙ number_done a (sym en ∙ z))
-
-pub other_refuses : (a : Answer) (n : ℕ) → n ≡ number_of a → (n ≡ 0 → ⊥) → is_refusal a ≡ true
-other_refuses a n en k = number_refuses a (λ e. k (en ∙ e))
-
 -- over the memory that is lent, the sectors that addresses name are there
 pub lent_memory : (b x m : List ℕ) (s : Settled) → Admitted b x m → s ≡ settled_stored b → Memory s.geometry s.translation m
 lent_memory b x m s k e = rw e (shaped_memory (device_stored b x) m k.ready.shaped k.ready.long)
@@ -122,6 +99,15 @@ lent_memory b x m s k e = rw e (shaped_memory (device_stored b x) m k.ready.shap
 pub lent_ready : (b x m : List ℕ) (a : Action) → Admitted b x m → lent_step b x m a ≡ lent_of (alone_of (device_stored b x) m a)
 unfolding lent_step
 lent_ready b x m a k = rw k.formed (ap lent_of (ready_step (device_stored b x) m a k.ready))
+
+pub ready_gives : (b x m : List ℕ) (a : Action) (r : Reply) (b' x' m' : List ℕ) → Done ≡ admission_of b m
+    → GivesBack (lent_of (alone_of (device_stored b x) m a)) r b' x' m' → GivesBack (lent_step b x m a) r b' x' m'
+ready_gives b x m a r b' x' m' e k = rw (lent_ready b x m a (admitted b x m (sym e))) k
+
+-- bytes of another number are left
+pub other_gives : (b x m : List ℕ) (a : Action) (r : Reply) → (length b ≡ 163 → ⊥) → r ≡ host_reply (number_of OutOfShape) 0 → GivesBack (lent_step b x m a) r b x m
+unfolding lent_step formed_of
+other_gives b x m a r k e = rw (ne_eqb _ _ k) (record { reply = e; state = refl; buffer = refl; sectors = refl })
 
 -- turned away, it leaves everything
 turned_away_law : (b x m : List ℕ) (a : Action) → LowBytes b → is_refusal (admission_of b m) ≡ true → lent_step b x m a ≡ left_alone b x m (admission_of b m)

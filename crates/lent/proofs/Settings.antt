@@ -1,18 +1,16 @@
--- Setup over lent bytes: the device's own where the lengths are right, else all zero, or left where the state's length is wrong.
+-- Setup over lent bytes of the right lengths is the device's own.
 use Prim.Native.Nat.{ℕ}
-use mathlib.Core.Path.{◌≡◌, refl, ap, ◌∙◌}
+use mathlib.Core.Path.{◌≡◌, ap, ◌∙◌}
 use mathlib.Core.List.{List}
-use borrow.Author.Tests.{eq-eqb, ne_eqb}
+use borrow.Author.Tests.{eq-eqb}
 use lib.ListN.{length, take, drop}
-use Rattle.face.specs.Reads.{number_of}
-use Rattle.face.specs.declared.Answer.TheVariants.{OutOfShape}
 use Rattle.settled.specs.declared.Identity.{Identity}
 use Rattle.device.specs.Setup.{setup_of}
 use Rattle.device.specs.declared.Outcome.{Outcome}
 use Rattle.layout.specs.Stored.{identity_stored}
 use Rattle.layout.specs.Bytes.{state_of}
 use Rattle.lent.specs.Lent.{host_reply}
-use Rattle.lent.specs.Setup.{zero_lent, lent_setup, Sets}
+use Rattle.lent.specs.Setup.{lent_setup, Sets}
 use Rattle.lent.specs.declared.Reply.{Reply}
 
 pub setup_gives : (b x : List ℕ) (c h s : ℕ) (i p : List ℕ) (name : Identity) (word : List ℕ) (o : Outcome) (r : Reply) (b' x' : List ℕ)
@@ -29,18 +27,3 @@ setup_gives b x c h s i p name word o r b' x' lb li lp en ew eo er eb ex =
       state = eb ∙ ap (λ (z : Outcome). state_of z.device) q;
       buffer = ex ∙ ap (λ (z : Outcome). z.device.face.buffer) q;
     })
-
-pub setup_master : (b x : List ℕ) (c h s : ℕ) (i p : List ℕ) (r : Reply) (b' x' : List ℕ) → length b ≡ 163 → length i ≡ 68
-    → (length p ≡ 32 → ⊥) → Sets (zero_lent b) r b' x' → Sets (lent_setup b x c h s i p) r b' x'
-unfolding lent_setup
-setup_master b x c h s i p r b' x' lb li lp k = rw (eq-eqb _ _ lb, eq-eqb _ _ li, ne_eqb _ _ lp) k
-
-pub setup_identity : (b x : List ℕ) (c h s : ℕ) (i p : List ℕ) (r : Reply) (b' x' : List ℕ) → length b ≡ 163 → (length i ≡ 68 → ⊥)
-    → Sets (zero_lent b) r b' x' → Sets (lent_setup b x c h s i p) r b' x'
-unfolding lent_setup
-setup_identity b x c h s i p r b' x' lb li k = rw (eq-eqb _ _ lb, ne_eqb _ _ li) k
-
-pub setup_state : (b x : List ℕ) (c h s : ℕ) (i p : List ℕ) (r : Reply) → (length b ≡ 163 → ⊥) → r ≡ host_reply (number_of OutOfShape) 0
-    → Sets (lent_setup b x c h s i p) r b x
-unfolding lent_setup
-setup_state b x c h s i p r lb k = rw (ne_eqb _ _ lb) (record { reply = k; state = refl; buffer = refl })

@@ -8,8 +8,9 @@ ghost use Rattle.lent.specs.Setup.{zero_lent, lent_setup, Sets};
 
 use device::Device;
 use face::Answer;
+use layout::State;
 
-// The answer's number, and its value.
+// The answer's number, and its value, as the C header has them.
 #[repr(C)]
 #[derive(Clone, Copy)]
 pub struct Reply {
@@ -37,23 +38,24 @@ pub fn refused(answer: Answer) -> Reply
 pub fn admission(state: &[u8], sectors: &[u8]) -> Answer
     ensures { result ≡ admission_of state.now sectors.now }
 {
-    if layout::formed(state) {
-        let settled = layout::settled_at(state);
-        let geometry = settled.geometry;
-        let hot = layout::hot_at(state);
-        if device::fits(settled, hot) {
-            if sectors.len() == 512 * (geometry.capacity() as usize) {
-                return Answer::Done;
-            }
-            return Answer::WrongLength;
-        }
+    let Some(state) = state.as_array() else {
+        return Answer::OutOfShape;
+    };
+    if !layout::formed(state) {
         return Answer::OutOfShape;
     }
-    Answer::OutOfShape
+    let front = layout::front_at(state);
+    if !device::fits(front) {
+        return Answer::OutOfShape;
+    }
+    if sectors.len() != 512 * (front.settled.geometry.capacity() as usize) {
+        return Answer::WrongLength;
+    }
+    Answer::Done
 }
 
-// State and buffer become all zero: what a refused setup hands back.
-fn refuse_setup(state: &mut [u8], buffer: &mut [u8; 512]) -> Reply
+// State and buffer become all zero: what a refused setup hands back. Here and above they stay two parameters (docs/DECISIONS.md, 66).
+fn refuse_setup(state: &mut State, buffer: &mut [u8; 512]) -> Reply
     ensures { Sets (zero_lent state.old) result state.new buffer.new }
 {
     block::zero(state);
@@ -62,6 +64,7 @@ fn refuse_setup(state: &mut [u8], buffer: &mut [u8; 512]) -> Reply
 }
 
 // Setup: state and buffer become a disk's just powered on, or all zero where it is refused.
+#[tactic(auto, unfolding(crate::specs::Setup::lent_setup))]
 pub fn setup(
     state: &mut [u8],
     buffer: &mut [u8; 512],
@@ -73,19 +76,15 @@ pub fn setup(
 ) -> Reply
     ensures { Sets (lent_setup state.old buffer.old cylinders heads sectors identity.now master.now) result state.new buffer.new }
 {
-    if state.len() == 163 {
-        if identity.len() == 68 {
-            if master.len() == 32 {
-                let i = layout::identity_at(identity, 0);
-                let p = layout::password_at(master, 0);
-                let outcome = Device::setup(cylinders, heads, sectors, i, p);
-                let number = outcome.number;
-                layout::put_device(state, buffer, outcome.device);
-                return answered(number, 0);
-            }
-            return refuse_setup(state, buffer);
-        }
+    let Some(state) = state.as_mut_array() else {
+        return refused(Answer::OutOfShape);
+    };
+    if identity.len() != 68 || master.len() != 32 {
         return refuse_setup(state, buffer);
     }
-    refused(Answer::OutOfShape)
+    let identity = layout::identity_at(identity, 0);
+    let master = layout::password_at(master, 0);
+    let outcome = Device::setup(cylinders, heads, sectors, identity, master);
+    layout::put_device(state, buffer, outcome.device);
+    answered(outcome.number, 0)
 }

@@ -6,15 +6,16 @@ ghost use Rattle.lock.specs.Lock.{is_locked, is_frozen, is_open, starting_lock, 
 ghost use Rattle.lock.specs.Passwords.{zero_password, fresh_secrets};
 
 // The three lock states.
-#[derive(Clone, Copy)]
+#[derive(Clone, Copy, Default)]
 pub enum Lock {
+    #[default]
     Open,
     Locked,
     Frozen,
 }
 
 // The security settings: the lock, the enabled mark, level Maximum (else High), the attempts left, the preparation by F3h.
-#[derive(Clone, Copy)]
+#[derive(Clone, Copy, Default)]
 pub struct Security {
     pub lock: Lock,
     pub enabled: bool,
@@ -43,31 +44,19 @@ impl Lock {
     pub fn open(self) -> bool
         ensures { result ≡ is_open self }
     {
-        match self {
-            Lock::Open => true,
-            Lock::Locked => false,
-            Lock::Frozen => false,
-        }
+        matches!(self, Lock::Open)
     }
 
     pub fn locked(self) -> bool
         ensures { result ≡ is_locked self }
     {
-        match self {
-            Lock::Open => false,
-            Lock::Locked => true,
-            Lock::Frozen => false,
-        }
+        matches!(self, Lock::Locked)
     }
 
     pub fn frozen(self) -> bool
         ensures { result ≡ is_frozen self }
     {
-        match self {
-            Lock::Open => false,
-            Lock::Locked => false,
-            Lock::Frozen => true,
-        }
+        matches!(self, Lock::Frozen)
     }
 }
 
@@ -75,10 +64,7 @@ impl Lock {
 fn starting_lock(enabled: bool) -> Lock
     ensures { result ≡ starting_lock enabled }
 {
-    if enabled {
-        return Lock::Locked;
-    }
-    Lock::Open
+    if enabled { Lock::Locked } else { Lock::Open }
 }
 
 impl Security {
@@ -86,13 +72,7 @@ impl Security {
     pub fn with_lock(self, lock: Lock) -> Self
         ensures { result ≡ with_lock self lock }
     {
-        Security {
-            lock,
-            enabled: self.enabled,
-            maximum: self.maximum,
-            attempts: self.attempts,
-            prepared: self.prepared,
-        }
+        Security { lock, ..self }
     }
 
     // F5h.
@@ -103,19 +83,23 @@ impl Security {
     }
 
     // F3h.
-    pub fn prepare(mut self) -> Self
+    pub fn prepare(self) -> Self
         ensures { result ≡ prepared_of self }
     {
-        self.prepared = true;
-        self
+        Security {
+            prepared: true,
+            ..self
+        }
     }
 
-    // The end of a preparation.
-    pub fn unprepare(mut self) -> Self
+    // The end of a preparation: a rule of its own, which one function of a mark for both would not name.
+    pub fn unprepare(self) -> Self
         ensures { result ≡ unprepared_of self }
     {
-        self.prepared = false;
-        self
+        Security {
+            prepared: false,
+            ..self
+        }
     }
 
     // No attempts left.
@@ -131,10 +115,7 @@ impl Security {
     pub fn cannot_erase(self) -> bool
         ensures { result ≡ cannot_erase self }
     {
-        if self.prepared {
-            return self.exhausted();
-        }
-        true
+        !self.prepared || self.exhausted()
     }
 
     // The clauses of answer 2 on attempts and lock.
@@ -142,23 +123,19 @@ impl Security {
     pub fn fits(self) -> bool
         ensures { result ≡ security_fits self }
     {
-        let lock = self.lock;
-        if lock.locked() {
-            if self.enabled {
-                return self.attempts <= 5;
-            }
-            return false;
-        }
-        self.attempts <= 5
+        self.attempts <= 5 && (self.enabled || !self.lock.locked())
     }
 
     // Power-on and hardware reset.
-    pub fn power_on(mut self) -> Self
+    pub fn power_on(self) -> Self
         ensures { result ≡ powered_on self }
     {
-        self.attempts = 5;
-        self.prepared = false;
-        self.with_lock(starting_lock(self.enabled))
+        Security {
+            lock: starting_lock(self.enabled),
+            attempts: 5,
+            prepared: false,
+            ..self
+        }
     }
 }
 
@@ -175,7 +152,9 @@ impl Secrets {
     pub fn fresh(master: [u8; 32]) -> Secrets
         ensures { result ≡ fresh_secrets master }
     {
-        let user = no_password();
-        Secrets { user, master }
+        Secrets {
+            user: no_password(),
+            master,
+        }
     }
 }

@@ -1,16 +1,14 @@
 -- How far the fast path alone brings a replay: over the records that the hot part and the buffer settle, up to the first other one.
-use Rattle.std.specs.Prelude.{ℕ, zero, suc, ◌+◌, ◌-◌, ◌*◌, ◌≤◌, ◌≡◌, List, length, drop}
+use Rattle.std.specs.Prelude.{ℕ, zero, suc, ◌+◌, ◌-◌, ◌*◌, ◌≤◌, ◌≡◌, List, length, drop, Option, Some, None, Result, Ok, Err}
 use Rattle.std.proofs.lemmas.List.Edits.{sets}
 use Rattle.face.specs.Reads.{number_of, value_of}
 use Rattle.face.specs.declared.Hot.{Hot}
 use Rattle.face.specs.declared.Seen.{Seen}
-use Rattle.face.specs.declared.Quick.{Quick}
-use Rattle.face.specs.declared.Quick.TheVariants.{Settles, Slow}
 use Rattle.fastpath.specs.Dev.{quick_alone, quick_alone_buffer}
 use Rattle.records.specs.Records.{next_of}
 use Rattle.records.specs.Replies.{reply_bytes}
-use Rattle.records.specs.declared.Found.{Found}
-use Rattle.records.specs.declared.Found.TheVariants.{Record, Nothing, Part, Malformed}
+use Rattle.records.specs.declared.Record.{Record}
+use Rattle.records.specs.declared.NoRecord.{NoRecord}
 use Rattle.loops.specs.declared.Stand.{Stand}
 
 -- where a loop over the hot part stands
@@ -42,16 +40,14 @@ way_behind w size b s =
     way_at (stand_at s.hot (w.stand.at + size) (w.stand.put + 5) (w.stand.left - 1)) b (sets w.out w.stand.put (settled_reply s))
 
 -- a record that the fast path settles is replied to; at one that needs the long way it stops
-unfoldable pub swift_quick : (Way → Way) → Way → ℕ → List ℕ → Quick → Way
-swift_quick rest w size b (Settles s) = rest (way_behind w size b s)
-swift_quick rest w size b Slow = w
+unfoldable pub swift_quick : (Way → Way) → Way → ℕ → List ℕ → Option Seen → Way
+swift_quick rest w size b (Some s) = rest (way_behind w size b s)
+swift_quick rest w size b None = w
 
 -- by what the bytes start with: where no whole record is there it stops
-unfoldable pub swift_as : (Way → Way) → Way → Found → Way
-swift_as rest w (Record a size) = swift_quick rest w size (quick_alone_buffer w.stand.hot w.buffer a) (quick_alone w.stand.hot w.buffer a)
-swift_as rest w Nothing = w
-swift_as rest w Part = w
-swift_as rest w Malformed = w
+unfoldable pub swift_as : (Way → Way) → Way → Result Record NoRecord → Way
+swift_as rest w (Ok r) = swift_quick rest w r.size (quick_alone_buffer w.stand.hot w.buffer r.action) (quick_alone w.stand.hot w.buffer r.action)
+swift_as rest w (Err e) = w
 
 -- n records at the most
 unfoldable pub swift_of : ℕ → List ℕ → Way → Way

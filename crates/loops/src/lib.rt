@@ -5,19 +5,15 @@ ghost use Rattle.std.specs.Prelude.{◌≡◌, ◌+◌, ◌≤◌, length};
 ghost use Rattle.std.proofs.lemmas.List.Edits.{sets};
 ghost use Rattle.loops.specs.Ways.{stand_at, Stands, settled_reply, way_at, swift_of, Onward};
 
-use face::{Answer, Hot, Quick, Seen};
-use glance::Glance;
-use records::Found;
+use face::{Hot, Seen};
 
 // The reply to a record that the fast path settled.
 fn answer(out: &mut [u8], put: usize, seen: Seen)
     requires { put + 5 ≤ length out.old }
     ensures { out.new ≡ sets out.old put (settled_reply seen) }
 {
-    let answer = seen.answer;
-    let number = answer.number();
-    let value = face::value_of(answer, seen.value);
-    records::reply(out, put, number, value);
+    let value = face::value_of(seen.answer, seen.value);
+    records::reply(out, put, seen.answer.number(), value);
 }
 
 // Where a loop over the hot part stands: the next record's place, its reply's, and how many replies fit behind that one.
@@ -40,29 +36,29 @@ fn glide(from: Stand, buffer: &mut [u8; 512], rec: &[u8], out: &mut [u8]) -> Sta
     requires { Stands rec.now out.old from }
     ensures { Onward rec.now (way_at from buffer.old out.old) (way_at result buffer.new out.new) }
 {
-    let hot = from.hot;
+    let Stand {
+        hot,
+        mut at,
+        mut put,
+        mut left,
+    } = from;
+    // Held apart, and not as a Stand, so that they stay in registers (docs/SPEED.md).
     let mut word = glance::place_of(hot);
     let mut raised = hot.signals.raised;
-    let mut at = from.at;
-    let mut put = from.put;
-    let mut left = from.left;
+    // A record says itself how many bytes it takes, so that no range gives the places.
     while 0 < left {
-        match records::next(&rec[at..]) {
-            Found::Record(action, size) => match glance::look(hot, word, raised, buffer, action) {
-                Glance::Shows(place, after, value) => {
-                    word = place;
-                    raised = after;
-                    records::reply(out, put, 0, value);
-                    put = put + 5;
-                    at = at + size;
-                    left = left - 1;
-                }
-                Glance::Beyond => return standing(glance::hot_at(hot, word, raised), at, put, left),
-            },
-            Found::Nothing => return standing(glance::hot_at(hot, word, raised), at, put, left),
-            Found::Part => return standing(glance::hot_at(hot, word, raised), at, put, left),
-            Found::Malformed => return standing(glance::hot_at(hot, word, raised), at, put, left),
-        }
+        let Ok(record) = records::next(&rec[at..]) else {
+            break;
+        };
+        let Some(shown) = glance::look(hot, word, raised, buffer, record.action) else {
+            break;
+        };
+        records::reply(out, put, 0, shown.value);
+        word = shown.word;
+        raised = shown.raised;
+        at += record.size;
+        put += 5;
+        left -= 1;
     }
     standing(glance::hot_at(hot, word, raised), at, put, left)
 }
@@ -73,35 +69,21 @@ pub fn swift(from: Stand, buffer: &mut [u8; 512], rec: &[u8], out: &mut [u8]) ->
     requires { Stands rec.now out.old from }
     ensures { way_at result buffer.new out.new ≡ swift_of from.left rec.now (way_at from buffer.old out.old) }
 {
-    let start = glide(from, buffer, rec, out);
-    let mut hot = start.hot;
-    let mut at = start.at;
-    let mut put = start.put;
-    let mut left = start.left;
-    while 0 < left {
-        match records::next(&rec[at..]) {
-            Found::Record(action, size) => match fastpath::quick(hot, buffer, action) {
-                Quick::Settles(seen) => {
-                    answer(out, put, seen);
-                    hot = seen.hot;
-                    at = at + size;
-                    put = put + 5;
-                    left = left - 1;
-                    // With no transfer open a glance shows little, and taking the hot part apart for it does not pay.
-                    if !hot.idle() {
-                        let far = glide(standing(hot, at, put, left), buffer, rec, out);
-                        hot = far.hot;
-                        at = far.at;
-                        put = far.put;
-                        left = far.left;
-                    }
-                }
-                Quick::Slow => return standing(hot, at, put, left),
-            },
-            Found::Nothing => return standing(hot, at, put, left),
-            Found::Part => return standing(hot, at, put, left),
-            Found::Malformed => return standing(hot, at, put, left),
+    let mut here = glide(from, buffer, rec, out);
+    // As in `glide`, a record says itself how many bytes it takes.
+    while 0 < here.left {
+        let Ok(record) = records::next(&rec[here.at..]) else {
+            break;
+        };
+        let Some(seen) = fastpath::quick(here.hot, buffer, record.action) else {
+            break;
+        };
+        answer(out, here.put, seen);
+        here = standing(seen.hot, here.at + record.size, here.put + 5, here.left - 1);
+        // With no transfer open a glance shows little, and taking the hot part apart for it does not pay.
+        if !here.hot.idle() {
+            here = glide(here, buffer, rec, out);
         }
     }
-    standing(hot, at, put, left)
+    here
 }

@@ -3,22 +3,22 @@ use mathlib.Core.Path.{◌≡◌}
 use mathlib.Core.List.{List}
 use Prim.Native.Nat.{ℕ}
 use lib.Dec.{ltb}
+use Rattle.std.specs.Prelude.{Option, Some, None}
 use Rattle.base.proofs.Tests.{either_way}
 use Rattle.lock.specs.declared.Secrets.{Secrets}
+use Rattle.face.specs.declared.Seen.{Seen}
 use Rattle.face.specs.Face.{with_buffer}
 use Rattle.fastpath.specs.Quick.{quick_write_of, quick_write_buffer}
 use Rattle.face.specs.declared.Face.{Face}
 use Rattle.face.specs.declared.PasswordBlock.{PasswordBlock}
 use Rattle.face.specs.declared.Transfer.TheVariants.{TakingPassword}
-use Rattle.face.specs.declared.Quick.{Quick}
-use Rattle.face.specs.declared.Quick.TheVariants.{Settles, Slow}
 use Rattle.effects.specs.Effects.{Effect, effect, seen_acted}
 use Rattle.password.specs.Passwords.{password_word, password_word_sectors}
 
 -- what the fast path settled, put in place; else what the long way gives
-abbrev pub quick_then : Face → Secrets → List ℕ → List ℕ → Quick → Effect → Effect
-quick_then f x m b (Settles s) slow = effect (seen_acted (with_buffer f b) x s) m
-quick_then f x m b Slow slow = slow
+abbrev pub quick_then : Face → Secrets → List ℕ → List ℕ → Option Seen → Effect → Effect
+quick_then f x m b (Some s) slow = effect (seen_acted (with_buffer f b) x s) m
+quick_then f x m b None slow = slow
 
 -- a word of a password block written by the fast path where it settles it
 abbrev TakenQuickly : Face → Secrets → List ℕ → ℕ → PasswordBlock → Type 0

@@ -13,8 +13,7 @@ use lock::{Purpose, Secrets, Security};
 fn password_ended(face: Face, security: Security) -> Face
     ensures { result ≡ password_ended face security }
 {
-    let settled = face.settled;
-    face.with_settled(settled.with_security(security))
+    face.with_settled(face.settled.with_security(security))
         .with_buffer(block::zeros())
 }
 
@@ -23,9 +22,8 @@ fn ended_as(face: Face, verdict: Verdict) -> Face
     ensures { result ≡ ended_as face verdict }
 {
     match verdict {
-        Verdict::EndsWell => transfers::finish(face),
+        Verdict::EndsWell | Verdict::Erases => transfers::finish(face),
         Verdict::Aborts => transfers::abort(face),
-        Verdict::Erases => transfers::finish(face),
     }
 }
 
@@ -33,10 +31,8 @@ fn ended_as(face: Face, verdict: Verdict) -> Face
 fn erase_as(verdict: Verdict, sectors: &mut [u8])
     ensures { sectors.new ≡ sectors_as sectors.old verdict }
 {
-    match verdict {
-        Verdict::EndsWell => (),
-        Verdict::Aborts => (),
-        Verdict::Erases => block::zero(sectors),
+    if let Verdict::Erases = verdict {
+        block::zero(sectors);
     }
 }
 
@@ -44,11 +40,9 @@ fn erase_as(verdict: Verdict, sectors: &mut [u8])
 fn judged_ends(face: Face, judged: Judged, sectors: &mut [u8]) -> Acted
     ensures { (result ≡ judged_acted face judged) × (sectors.new ≡ sectors_as sectors.old judged.verdict) }
 {
-    let security = judged.security;
-    let secrets = judged.secrets;
-    let verdict = judged.verdict;
-    erase_as(verdict, sectors);
-    effects::done(ended_as(password_ended(face, security), verdict), secrets)
+    erase_as(judged.verdict, sectors);
+    let ended = password_ended(face, judged.security);
+    effects::done(ended_as(ended, judged.verdict), judged.secrets)
 }
 
 // The last word of a password block has arrived.
@@ -56,14 +50,8 @@ fn judged_ends(face: Face, judged: Judged, sectors: &mut [u8]) -> Acted
 fn password_last(face: Face, secrets: Secrets, purpose: Purpose, sectors: &mut [u8]) -> Acted
     ensures { (result ≡ password_last face secrets purpose) × (sectors.new ≡ password_last_sectors face secrets sectors.old purpose) }
 {
-    let settled = face.settled;
-    let security = settled.security;
-    let block = face.buffer;
-    judged_ends(
-        face,
-        judging::judge(security, purpose, secrets, block),
-        sectors,
-    )
+    let judged = judging::judge(face.settled.security, purpose, secrets, face.buffer);
+    judged_ends(face, judged, sectors)
 }
 
 // A word of a password block but its last has arrived.
@@ -71,8 +59,9 @@ fn password_more(face: Face, block: PasswordBlock, w: u16) -> Face
     requires { block.word < 255 }
     ensures { result ≡ password_more face block w }
 {
-    let hot = face.hot;
-    let next = hot.with_transfer(Transfer::TakingPassword(block.next_word()));
+    let next = face
+        .hot
+        .with_transfer(Transfer::TakingPassword(block.next_word()));
     transfers::word_in(face, block.word, w).with_hot(next)
 }
 
@@ -90,11 +79,6 @@ pub fn password_word(
     if block.word < 255 {
         return effects::done(password_more(face, block, w), secrets);
     }
-    let purpose = block.purpose;
-    password_last(
-        transfers::word_in(face, block.word, w),
-        secrets,
-        purpose,
-        sectors,
-    )
+    let filled = transfers::word_in(face, block.word, w);
+    password_last(filled, secrets, block.purpose, sectors)
 }

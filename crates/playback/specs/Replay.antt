@@ -1,5 +1,5 @@
 -- The replay of a recording (document 01, "Replay"): each record is a host action, and the first fault ends it.
-use Rattle.std.specs.Prelude.{ℕ, zero, suc, ◌+◌, ◌*◌, Bool, true, false, List, [], ◌∷◌, ◌++◌, eqb, length, drop, replicate}
+use Rattle.std.specs.Prelude.{ℕ, zero, suc, ◌+◌, ◌*◌, Bool, true, false, List, [], ◌∷◌, ◌++◌, eqb, length, drop, replicate, Result, Ok, Err}
 use Rattle.base.specs.Choice.{pick}
 use Rattle.lock.specs.Passwords.{zero_password}
 use Rattle.settled.specs.declared.Identity.{Identity}
@@ -9,8 +9,9 @@ use Rattle.device.specs.Host.{step_of}
 use Rattle.device.specs.declared.Device.{Device}
 use Rattle.records.specs.Records.{next_of}
 use Rattle.records.specs.Replies.{reply_bytes, fault_bytes}
-use Rattle.records.specs.declared.Found.{Found}
-use Rattle.records.specs.declared.Found.TheVariants.{Record, Nothing, Part, Malformed}
+use Rattle.records.specs.declared.Record.{Record}
+use Rattle.records.specs.declared.NoRecord.{NoRecord}
+use Rattle.records.specs.declared.NoRecord.TheVariants.{Nothing, Part, Malformed}
 use Rattle.playback.specs.declared.Stage.{Stage}
 use Rattle.playback.specs.declared.Stage.TheVariants.{Opening, Replaying, Over}
 
@@ -62,12 +63,12 @@ abbrev pub cut_short : Bool → Device → List ℕ → Play
 cut_short last d m = pick last (rests d m fault_bytes Over) (rests d m [] Replaying)
 
 -- by what the bytes start with; `last` says that none come behind them
-unfoldable pub play_as : Bool → Device → List ℕ → List ℕ → (Device → List ℕ → List ℕ → Play) → Found → Play
-play_as last d m l rest (Record a size) =
-    onto size (answered (step_of d m a)) (rest (step_of d m a).outcome.device (step_of d m a).sectors (drop size l))
-play_as last d m l rest Nothing = rests d m [] (cut_stage last)
-play_as last d m l rest Part = cut_short last d m
-play_as last d m l rest Malformed = rests d m fault_bytes Over
+unfoldable pub play_as : Bool → Device → List ℕ → List ℕ → (Device → List ℕ → List ℕ → Play) → Result Record NoRecord → Play
+play_as last d m l rest (Ok r) =
+    onto r.size (answered (step_of d m r.action)) (rest (step_of d m r.action).outcome.device (step_of d m r.action).sectors (drop r.size l))
+play_as last d m l rest (Err Nothing) = rests d m [] (cut_stage last)
+play_as last d m l rest (Err Part) = cut_short last d m
+play_as last d m l rest (Err Malformed) = rests d m fault_bytes Over
 
 -- n records at the most: "The first fault .. adds 00 01 05 (length 1, answer 5) and ends"
 unfoldable pub play_of : Bool → ℕ → Device → List ℕ → List ℕ → Play

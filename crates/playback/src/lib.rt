@@ -29,11 +29,7 @@ impl Stage {
     pub fn over(self) -> bool
         ensures { result ≡ is_over self }
     {
-        match self {
-            Stage::Opening => false,
-            Stage::Replaying => false,
-            Stage::Over => true,
-        }
+        matches!(self, Stage::Over)
     }
 }
 
@@ -41,13 +37,10 @@ impl Stage {
 fn spaces() -> Identity
     ensures { result ≡ spaces }
 {
-    let serial = [0x20u8; 20];
-    let firmware = [0x20u8; 8];
-    let model = [0x20u8; 40];
     Identity {
-        serial,
-        firmware,
-        model,
+        serial: [0x20; 20],
+        firmware: [0x20; 8],
+        model: [0x20; 40],
     }
 }
 
@@ -55,8 +48,5 @@ fn spaces() -> Identity
 pub fn replay_device() -> Device
     ensures { result ≡ replay_device }
 {
-    let identity = spaces();
-    let master = lock::no_password();
-    let outcome = Device::setup(4, 2, 8, identity, master);
-    outcome.device
+    Device::setup(4, 2, 8, spaces(), lock::no_password()).device
 }

@@ -7,21 +7,22 @@ use native.Mathlib.Nat.{add-zero}
 use native.Mathlib.Omega.{arith}
 use lib.ListN.{length, take, drop, length-append, take-append-drop}
 use lib.Seq.{sets, length-take-le}
-use Rattle.face.specs.declared.Action.{Action}
+use Rattle.std.specs.Prelude.{Ok, Err}
 use Rattle.device.specs.Alone.{alone_of}
 use Rattle.device.specs.Host.{Ready}
 use Rattle.device.specs.declared.Device.{Device}
 use Rattle.device.specs.declared.Outcome.{Outcome}
 use Rattle.records.specs.Records.{next_of}
 use Rattle.records.specs.Replies.{reply_bytes, fault_bytes}
-use Rattle.records.specs.declared.Found.TheVariants.{Record, Nothing, Part, Malformed}
+use Rattle.records.specs.declared.Record.{Record}
+use Rattle.records.specs.declared.NoRecord.TheVariants.{Nothing, Part, Malformed}
 use Rattle.records.proofs.Stores.{write_behind}
-use Rattle.loops.specs.Ways.{stand_at, Way, way_at}
+use Rattle.loops.specs.Ways.{Stands, way_at, swift_of}
 use Rattle.loops.specs.declared.Stand.{Stand}
-use Rattle.loops.proofs.Onward.{swift_fewer}
+use Rattle.loops.proofs.Onward.{swift_fewer, swift_stands}
 use Rattle.playback.specs.Replay.{Play, rests, onto, cut_stage, cut_short, play_as, play_of}
 use Rattle.player.specs.Parts.{part_of, came, came_of, stretch_way, course_of, Gives, cut_made, cut_reply}
-use Rattle.playback.specs.Loops.{whole_of, Playing}
+use Rattle.playback.specs.Loops.{Playing}
 use Rattle.playback.specs.declared.Stage.{Stage}
 use Rattle.playback.specs.declared.Stage.TheVariants.{Replaying, Over}
 use Rattle.playback.proofs.Playing.{play_next, playing_more, playing_left}
@@ -34,17 +35,17 @@ pub play_full : (last : Bool) (n : ℕ) (d : Device) (m l : List ℕ) → n ≤ 
 unfolding play_of
 play_full last n d m l h = let g : n ≡ 0 = omega arith in ap (λ (k : ℕ). play_of last k d m l) g
 
-pub play_nothing : (last : Bool) (n : ℕ) (d : Device) (m l : List ℕ) → next_of l ≡ Nothing → play_of last (n + 1) d m l ≡ rests d m [] (cut_stage last)
+pub play_nothing : (last : Bool) (n : ℕ) (d : Device) (m l : List ℕ) → next_of l ≡ Err Nothing → play_of last (n + 1) d m l ≡ rests d m [] (cut_stage last)
 unfolding play_as
-play_nothing last n d m l e = play_next last n d m l Nothing e
+play_nothing last n d m l e = play_next last n d m l (Err Nothing) e
 
-play_part : (last : Bool) (n : ℕ) (d : Device) (m l : List ℕ) → next_of l ≡ Part → play_of last (n + 1) d m l ≡ cut_short last d m
+play_part : (last : Bool) (n : ℕ) (d : Device) (m l : List ℕ) → next_of l ≡ Err Part → play_of last (n + 1) d m l ≡ cut_short last d m
 unfolding play_as
-play_part last n d m l e = play_next last n d m l Part e
+play_part last n d m l e = play_next last n d m l (Err Part) e
 
-play_malformed : (last : Bool) (n : ℕ) (d : Device) (m l : List ℕ) → next_of l ≡ Malformed → play_of last (n + 1) d m l ≡ cut_short true d m
+play_malformed : (last : Bool) (n : ℕ) (d : Device) (m l : List ℕ) → next_of l ≡ Err Malformed → play_of last (n + 1) d m l ≡ cut_short true d m
 unfolding play_as
-play_malformed last n d m l e = play_next last n d m l Malformed e
+play_malformed last n d m l e = play_next last n d m l (Err Malformed) e
 
 -- ---- the loop
 
@@ -65,36 +66,29 @@ playing_none last d m l out at put r h g =
 
 -- a record that went the long way
 pub playing_after : {w : Play} {last : Bool} {l out₀ : List ℕ} {k n : ℕ} {d : Device} {m out : List ℕ} {at put : ℕ}
-    → Playing w last l out₀ k (n + 1) d m out at put → (a : Action) (size : ℕ) → next_of (drop at l) ≡ Record a size
-    → (o : Outcome) (m' : List ℕ) → o ≡ (alone_of d m a).outcome → m' ≡ (alone_of d m a).sectors → length m' ≡ length m
+    → Playing w last l out₀ k (n + 1) d m out at put → (r : Record) → next_of (drop at l) ≡ Ok r
+    → (o : Outcome) (m' : List ℕ) → o ≡ (alone_of d m r.action).outcome → m' ≡ (alone_of d m r.action).sectors → length m' ≡ length m
     → (out' : List ℕ) → out' ≡ sets out put (reply_bytes o.number o.value)
-    → Playing w last l out₀ k n o.device m' out' (at + size) (put + 5)
-playing_after {d = d} {m = m} p a size x o m' f g q out' e =
-    playing_more p a size x (record { outcome = o; sectors = m' })
-    (ap (λ (i : Outcome). record { outcome = i; sectors = (alone_of d m a).sectors }) (sym f) ∙ ap (λ (i : List ℕ). record { outcome = o; sectors = i }) (sym g))
+    → Playing w last l out₀ k n o.device m' out' (at + r.size) (put + 5)
+playing_after {d = d} {m = m} p r x o m' f g q out' e =
+    playing_more p r x (record { outcome = o; sectors = m' })
+    (ap (λ (i : Outcome). record { outcome = i; sectors = (alone_of d m r.action).sectors }) (sym f) ∙ ap (λ (i : List ℕ). record { outcome = o; sectors = i }) (sym g))
     q out' e
 
 -- records that the hot part and the buffer settle
-pub playing_stretch : {w : Play} {last : Bool} {l out₀ : List ℕ} {k : ℕ} (n : ℕ) {d : Device} {m out : List ℕ} {at put : ℕ}
+pub playing_stretch : {w : Play} {last : Bool} {l out₀ : List ℕ} {k n : ℕ} {d : Device} {m out : List ℕ} {at put : ℕ}
     → Playing w last l out₀ k n d m out at put → 0 < n
-    → (r : Course) → r ≡ course_of d (stretch_way d at put (n - 1) l out) → (out' : List ℕ) → out' ≡ (stretch_way d at put (n - 1) l out).out
+    → {r : Course} {out' : List ℕ} → (r ≡ course_of d (stretch_way d at put (n - 1) l out)) × (out' ≡ (stretch_way d at put (n - 1) l out).out)
     → Playing w last l out₀ k (r.left + 1) r.device m out' r.at r.put
-playing_stretch n {d = d} p h r e out' o =
-    rw (e, o) (swift_plays (n - 1) d _ (omega arith) (playing_left p ((n - 1) + 1) (omega arith)))
+playing_stretch {n = n} {d = d} p h e =
+    rw (e.0, e.1) (swift_plays (n - 1) d _ (omega arith) (playing_left p ((n - 1) + 1) (omega arith)))
 
--- after them no more replies fit than before
-pub stretch_less : (n : ℕ) (d : Device) (l out : List ℕ) (at put : ℕ) → 0 < n → (r : Course) → r ≡ course_of d (stretch_way d at put (n - 1) l out) → r.left < n
-stretch_less n d l out at put h r e =
-    let g : (stretch_way d at put (n - 1) l out).stand.left ≤ n - 1 = swift_fewer (n - 1) l (way_at (stand_at d.face.hot at put (n - 1)) d.face.buffer out) in
-    rw e (omega (arith, g, h))
+-- where they end, the inner loops stand in the recording and in the reply, and no more replies fit than before
+pub stretch_stands : (l out out' b b' : List ℕ) (s far : Stand) → Stands l out s → way_at far b' out' ≡ swift_of s.left l (way_at s b out) → Stands l out' far
+stretch_stands l out out' b b' s far h e = rw (← e) at (swift_stands s.left l (way_at s b out) (omega arith) h)
 
--- the device put together where they end
-pub stretched : (d : Device) (l out : List ℕ) (at put left : ℕ) (far : Stand) (b out' : List ℕ) → way_at far b out' ≡ stretch_way d at put left l out
-    → (x : Device) → x ≡ whole_of d far.hot b
-    → (◌≡◌ {A = Course} (record { device = x; at = far.at; put = far.put; left = far.left }) (course_of d (stretch_way d at put left l out)))
-    × (out' ≡ (stretch_way d at put left l out).out)
-stretched d l out at put left far b out' w x e =
-    (ap (λ (i : Device). record { device = i; at = far.at; put = far.put; left = far.left }) e ∙ ap (course_of d) w, ap (λ (i : Way). i.out) w)
+pub stretch_fewer : (l out out' b b' : List ℕ) (s far : Stand) → way_at far b' out' ≡ swift_of s.left l (way_at s b out) → far.left ≤ s.left
+stretch_fewer l out out' b b' s far e = rw (← e) at (swift_fewer s.left l (way_at s b out))
 
 -- ---- its ends
 
@@ -146,11 +140,11 @@ playing_cut {out₀ = out₀} n {m = m} p false e out' o = go (playing_rests p R
     go g i = rw i g
 
 pub playing_part : {w : Play} {last : Bool} {l out₀ : List ℕ} {k : ℕ} (n : ℕ) {d : Device} {m out : List ℕ} {at put : ℕ}
-    → Playing w last l out₀ k (n + 1) d m out at put → next_of (drop at l) ≡ Part
+    → Playing w last l out₀ k (n + 1) d m out at put → next_of (drop at l) ≡ Err Part
     → (out' : List ℕ) → out' ≡ cut_reply last out put → Gives w (came d (cut_stage last) at (cut_made last put)) m out₀ out'
 playing_part {last = last} n p e out' o = playing_cut n p last (play_part _ _ _ _ _ e) out' o
 
 pub playing_malformed : {w : Play} {last : Bool} {l out₀ : List ℕ} {k : ℕ} (n : ℕ) {d : Device} {m out : List ℕ} {at put : ℕ}
-    → Playing w last l out₀ k (n + 1) d m out at put → next_of (drop at l) ≡ Malformed
+    → Playing w last l out₀ k (n + 1) d m out at put → next_of (drop at l) ≡ Err Malformed
     → (out' : List ℕ) → out' ≡ cut_reply true out put → Gives w (came d (cut_stage true) at (cut_made true put)) m out₀ out'
 playing_malformed n p e out' o = playing_cut n p true (play_malformed _ _ _ _ _ e) out' o

@@ -11,7 +11,7 @@ ghost use Rattle.player.specs.Parts.{part_of, came, stretch_way, course_of, Give
 use device::Device;
 use face::{Face, Hot};
 use playback::Stage;
-use records::Found;
+use records::NoRecord;
 
 // How far a part of a recording came.
 #[derive(Clone, Copy)]
@@ -32,12 +32,11 @@ struct Course {
 }
 
 // The device, of which the inner loops held the hot part and the buffer apart.
-fn whole(mut device: Device, hot: Hot, buffer: [u8; 512]) -> Device
+fn whole(device: Device, hot: Hot, buffer: [u8; 512]) -> Device
     ensures { result ≡ whole_of device hot buffer }
 {
-    let face = device.face;
-    device.face = face.with_buffer(buffer).with_hot(hot);
-    device
+    let face = device.face.with_buffer(buffer).with_hot(hot);
+    Device { face, ..device }
 }
 
 pub fn halt(device: Device, stage: Stage, taken: usize, made: usize) -> Came
@@ -51,33 +50,43 @@ pub fn halt(device: Device, stage: Stage, taken: usize, made: usize) -> Came
     }
 }
 
-// The bytes go on with no whole record: a fault, where no more of them come.
-#[tactic(auto, unfolding(crate::specs::Parts::cut_reply, crate::specs::Parts::cut_made))]
-fn cut(device: Device, last: bool, out: &mut [u8], at: usize, put: usize) -> Came
-    requires { put + 3 ≤ length out.old }
-    ensures { (result ≡ came device (cut_stage last) at (cut_made last put)) × (out.new ≡ cut_reply last out.old put) }
-{
-    if last {
-        records::fault(out, put);
-        return halt(device, Stage::Over, at, put + 3);
+impl Course {
+    fn halts(self, stage: Stage) -> Came
+        ensures { result ≡ came self.device stage self.at self.put }
+    {
+        halt(self.device, stage, self.at, self.put)
     }
-    halt(device, Stage::Replaying, at, put)
-}
 
-// The records from there on that the hot part and the buffer settle.
-fn stretch(device: Device, at: usize, put: usize, left: usize, rec: &[u8], out: &mut [u8]) -> Course
-    requires { Stands rec.now out.old (stand_at device.face.hot at put left) }
-    ensures { (result ≡ course_of device (stretch_way device at put left rec.now out.old)) × (out.new ≡ (stretch_way device at put left rec.now out.old).out) }
-{
-    let face = device.face;
-    let mut buffer = face.buffer;
-    let here = loops::standing(face.hot, at, put, left);
-    let far = loops::swift(here, &mut buffer, rec, out);
-    Course {
-        device: whole(device, far.hot, buffer),
-        at: far.at,
-        put: far.put,
-        left: far.left,
+    // The bytes go on with no whole record: a fault, where no more of them come.
+    #[tactic(auto, unfolding(crate::specs::Parts::cut_reply, crate::specs::Parts::cut_made))]
+    fn cut(self, last: bool, out: &mut [u8]) -> Came
+        requires { self.put + 3 ≤ length out.old }
+        ensures { (result ≡ came self.device (cut_stage last) self.at (cut_made last self.put)) × (out.new ≡ cut_reply last out.old self.put) }
+    {
+        if last {
+            records::fault(out, self.put);
+            return halt(self.device, Stage::Over, self.at, self.put + 3);
+        }
+        self.halts(Stage::Replaying)
+    }
+
+    // The records from there on that the hot part and the buffer settle.
+    fn stretch(self, rec: &[u8], out: &mut [u8]) -> Course
+        requires { Stands rec.now out.old (stand_at self.device.face.hot self.at self.put self.left) }
+        ensures way { (result ≡ course_of self.device (stretch_way self.device self.at self.put self.left rec.now out.old)) × (out.new ≡ (stretch_way self.device self.at self.put self.left rec.now out.old).out) }
+        ensures stands { Stands rec.now out.new (stand_at result.device.face.hot result.at result.put result.left) }
+        ensures fewer { result.left ≤ self.left }
+    {
+        let face = self.device.face;
+        let mut buffer = face.buffer;
+        let here = loops::standing(face.hot, self.at, self.put, self.left);
+        let far = loops::swift(here, &mut buffer, rec, out);
+        Course {
+            device: whole(self.device, far.hot, buffer),
+            at: far.at,
+            put: far.put,
+            left: far.left,
+        }
     }
 }
 
@@ -86,28 +95,28 @@ pub fn play(from: Came, sectors: &mut [u8], rec: &[u8], last: bool, out: &mut [u
     requires { Ready from.device sectors.old × ((from.taken ≤ length rec.now) × (from.made ≤ length out.old)) }
     ensures { Gives (part_of last from.device sectors.old rec.now from.taken out.old from.made) result sectors.new out.old out.new }
 {
-    let mut device = from.device;
-    let mut at = from.taken;
-    let mut put = from.made;
-    let mut left = (out.len() - put) / 5;
-    while 0 < left {
-        let far = stretch(device, at, put, left - 1, rec, out);
-        device = far.device;
-        at = far.at;
-        put = far.put;
-        left = far.left;
-        match records::next(&rec[at..]) {
-            Found::Record(action, size) => {
-                let outcome = device.act(action, sectors);
-                device = outcome.device;
-                records::reply(out, put, outcome.number, outcome.value);
-                put = put + 5;
-                at = at + size;
+    let mut course = Course {
+        device: from.device,
+        at: from.taken,
+        put: from.made,
+        left: (out.len() - from.made) / 5,
+    };
+    // A stretch takes as many records as it settles, so that no range gives the places.
+    while 0 < course.left {
+        course.left -= 1;
+        course = course.stretch(rec, out);
+        match records::next(&rec[course.at..]) {
+            Ok(record) => {
+                let outcome = course.device.act(record.action, sectors);
+                records::reply(out, course.put, outcome.number, outcome.value);
+                course.device = outcome.device;
+                course.at += record.size;
+                course.put += 5;
             }
-            Found::Nothing => return halt(device, Stage::ended(last), at, put),
-            Found::Part => return cut(device, last, out, at, put),
-            Found::Malformed => return cut(device, true, out, at, put),
+            Err(NoRecord::Nothing) => return course.halts(Stage::ended(last)),
+            Err(NoRecord::Part) => return course.cut(last, out),
+            Err(NoRecord::Malformed) => return course.cut(true, out),
         }
     }
-    halt(device, Stage::Replaying, at, put)
+    course.halts(Stage::Replaying)
 }

@@ -1,6 +1,6 @@
 -- Bytes that move to the front one by one, from the first on, are read before they are written over.
 use Prim.Native.Nat.{ℕ, ◌+◌, ◌-◌, ◌≤◌, ◌<◌}
-use mathlib.Core.Path.{◌≡◌, refl, sym, ap, ◌∙◌}
+use mathlib.Core.Path.{◌≡◌, sym, ap, ◌∙◌}
 use mathlib.Core.List.{List, ◌++◌}
 use native.Mathlib.Nat.{zero-add}
 use native.Mathlib.Numerals.{add-one}
@@ -15,9 +15,6 @@ pub record Keeping (window₀ window : List ℕ) (from to moved : ℕ) : Type 0 
   pub within : to ≤ length window₀
   pub some : moved ≤ to - from
   pub long : length window ≡ length window₀
-
-pub keeping_none : (window : List ℕ) (from to : ℕ) → from ≤ to → to ≤ length window → Keeping window window from to 0
-keeping_none window from to h k = record { is = refl; order = h; within = k; some = omega arith; long = refl }
 
 -- what stands behind those is as it was
 kept_byte : (window₀ : List ℕ) (from to moved : ℕ) → from + moved < to → to ≤ length window₀

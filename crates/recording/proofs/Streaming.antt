@@ -8,6 +8,7 @@ use lib.Dec.{ltb, eqb}
 use lib.ListN.{length, drop, length-drop}
 use lib.Seq.{drop-append-le, drop-drop}
 use borrow.Author.Tests.{le-ltb}
+use Rattle.std.specs.Prelude.{Result, Ok, Err}
 use Rattle.base.specs.Choice.{pick}
 use Rattle.base.proofs.Tests.{false≢true}
 use Rattle.block.specs.Sectors.{zeroed}
@@ -16,8 +17,9 @@ use Rattle.device.specs.Host.{step_of}
 use Rattle.device.specs.declared.Device.{Device}
 use Rattle.records.specs.Records.{next_of}
 use Rattle.records.specs.Replies.{fault_bytes}
-use Rattle.records.specs.declared.Found.{Found}
-use Rattle.records.specs.declared.Found.TheVariants.{Record, Nothing, Part, Malformed}
+use Rattle.records.specs.declared.Record.{Record}
+use Rattle.records.specs.declared.NoRecord.{NoRecord}
+use Rattle.records.specs.declared.NoRecord.TheVariants.{Nothing, Part, Malformed}
 use Rattle.records.proofs.Sizes.{record_within}
 use Rattle.records.proofs.Prefixes.{decided, next_stays}
 use Rattle.playback.specs.Replay.{Play, rests, onto, answered, play_as, play_of, records_reply, reply_from, version_fault, replay_device, zero_sectors, reply_of}
@@ -47,12 +49,12 @@ more_records last (suc n) k d m l h =
     let e : suc n + k ≡ suc (n + k) = omega arith in
     ap (λ (i : ℕ). play_of last i d m l) e ∙ go (next_of l) refl (λ d' m' l'. more_records last n k d' m' l')
   where
-    go : (x : Found) → next_of l ≡ x → ((d' : Device) (m' l' : List ℕ) → length l' < 3 * n → play_of last (n + k) d' m' l' ≡ play_of last n d' m' l')
+    go : (x : Result Record NoRecord) → next_of l ≡ x → ((d' : Device) (m' l' : List ℕ) → length l' < 3 * n → play_of last (n + k) d' m' l' ≡ play_of last n d' m' l')
         → play_as last d m l (play_of last (n + k)) x ≡ play_as last d m l (play_of last n) x
-    go (Record a size) e ih = ap (onto size (answered (step_of d m a))) (ih _ _ (drop size l) (shorter l size n (record_within l a size e) h))
-    go Nothing e ih = refl
-    go Part e ih = refl
-    go Malformed e ih = refl
+    go (Ok r) e ih = ap (onto r.size (answered (step_of d m r.action))) (ih _ _ (drop r.size l) (shorter l r.size n (record_within l r e) h))
+    go (Err Nothing) e ih = refl
+    go (Err Part) e ih = refl
+    go (Err Malformed) e ih = refl
 
 -- any number of records above a third of the bytes gives them all
 pub enough_records : (n : ℕ) (d : Device) (m l : List ℕ) → length l < 3 * n → (play_of true n d m l).reply ≡ records_reply d m l
@@ -68,36 +70,36 @@ unfolding play_of play_as
 enough_ends zero d m l h = absurd (none_below (length l) h)
 enough_ends (suc n) d m l h = go (next_of l) refl (λ d' m' l'. enough_ends n d' m' l')
   where
-    go : (x : Found) → next_of l ≡ x → ((d' : Device) (m' l' : List ℕ) → length l' < 3 * n → (play_of true n d' m' l').stage ≡ Over)
+    go : (x : Result Record NoRecord) → next_of l ≡ x → ((d' : Device) (m' l' : List ℕ) → length l' < 3 * n → (play_of true n d' m' l').stage ≡ Over)
         → (play_as true d m l (play_of true n) x).stage ≡ Over
-    go (Record a size) e ih = ih _ _ (drop size l) (shorter l size n (record_within l a size e) h)
-    go Nothing e ih = refl
-    go Part e ih = refl
-    go Malformed e ih = refl
+    go (Ok r) e ih = ih _ _ (drop r.size l) (shorter l r.size n (record_within l r e) h)
+    go (Err Nothing) e ih = refl
+    go (Err Part) e ih = refl
+    go (Err Malformed) e ih = refl
 
 -- ---- one record of the reply to them all
 
 -- the reply by what the bytes start with
-abbrev replies_as : Device → List ℕ → List ℕ → Found → List ℕ
-replies_as d m l (Record a size) = answered (step_of d m a) ++ records_reply (step_of d m a).outcome.device (step_of d m a).sectors (drop size l)
-replies_as d m l Nothing = []
-replies_as d m l Part = fault_bytes
-replies_as d m l Malformed = fault_bytes
+abbrev replies_as : Device → List ℕ → List ℕ → Result Record NoRecord → List ℕ
+replies_as d m l (Ok r) = answered (step_of d m r.action) ++ records_reply (step_of d m r.action).outcome.device (step_of d m r.action).sectors (drop r.size l)
+replies_as d m l (Err Nothing) = []
+replies_as d m l (Err Part) = fault_bytes
+replies_as d m l (Err Malformed) = fault_bytes
 
-records_next : (d : Device) (m l : List ℕ) (x : Found) → next_of l ≡ x → records_reply d m l ≡ replies_as d m l x
+records_next : (d : Device) (m l : List ℕ) (x : Result Record NoRecord) → next_of l ≡ x → records_reply d m l ≡ replies_as d m l x
 unfolding records_reply play_of play_as
-records_next d m l x e = ap (λ (i : Found). (play_as true d m l (play_of true (length l)) i).reply) e ∙ go x e
+records_next d m l x e = ap (λ (i : Result Record NoRecord). (play_as true d m l (play_of true (length l)) i).reply) e ∙ go x e
   where
-    go : (y : Found) → next_of l ≡ y → (play_as true d m l (play_of true (length l)) y).reply ≡ replies_as d m l y
-    go (Record a size) h =
-        let w : (3 ≤ size) × (size ≤ length l) = record_within l a size h in
-        let s : length (drop size l) ≡ length l - size = length-drop size l in
-        let b : 3 ≤ size = w.0 in
-        let c : size ≤ length l = w.1 in
-        ap (λ (i : List ℕ). answered (step_of d m a) ++ i) (enough_records (length l) _ _ (drop size l) (omega arith))
-    go Nothing h = refl
-    go Part h = refl
-    go Malformed h = refl
+    go : (y : Result Record NoRecord) → next_of l ≡ y → (play_as true d m l (play_of true (length l)) y).reply ≡ replies_as d m l y
+    go (Ok r) h =
+        let w : (3 ≤ r.size) × (r.size ≤ length l) = record_within l r h in
+        let s : length (drop r.size l) ≡ length l - r.size = length-drop r.size l in
+        let b : 3 ≤ r.size = w.0 in
+        let c : r.size ≤ length l = w.1 in
+        ap (λ (i : List ℕ). answered (step_of d m r.action) ++ i) (enough_records (length l) _ _ (drop r.size l) (omega arith))
+    go (Err Nothing) h = refl
+    go (Err Part) h = refl
+    go (Err Malformed) h = refl
 
 -- ---- a turn
 
@@ -117,29 +119,29 @@ play_continues last (suc n) d m l rest b = go (next_of l) refl (λ d' m' l'. pla
     alone : last ≡ true → l ++ rest ≡ l
     alone e = ap (λ (r : List ℕ). l ++ r) (b e) ∙ append-nil l
 
-    waits : (x : Found) (w : List ℕ) → next_of l ≡ x → replies_as d m l x ≡ w → (i : Bool) → last ≡ i
+    waits : (x : Result Record NoRecord) (w : List ℕ) → next_of l ≡ x → replies_as d m l x ≡ w → (i : Bool) → last ≡ i
         → Continues (records_reply d m (l ++ rest)) l rest (pick i (rests d m w Over) (rests d m [] Replaying))
     waits x w e r true h = ap (records_reply d m) (alone h) ∙ records_next d m l x e ∙ r ∙ sym (append-nil w)
     waits x w e r false h = refl
 
-    go : (x : Found) → next_of l ≡ x
+    go : (x : Result Record NoRecord) → next_of l ≡ x
         → ((d' : Device) (m' l' : List ℕ) → Continues (records_reply d' m' (l' ++ rest)) l' rest (play_of last n d' m' l'))
         → Continues (records_reply d m (l ++ rest)) l rest (play_as last d m l (play_of last n) x)
-    go (Record a size) e ih =
-        let s : Step = step_of d m a in
-        let p : Play = play_of last n s.outcome.device s.sectors (drop size l) in
-        records_next d m (l ++ rest) (Record a size) (next_stays l rest (ap decided e) ∙ e)
-        ∙ ap (λ (i : List ℕ). answered s ++ records_reply s.outcome.device s.sectors i) (drop-append-le size l rest (record_within l a size e).1)
-        ∙ ap (λ (i : List ℕ). answered s ++ i) (ih s.outcome.device s.sectors (drop size l))
-        ∙ sym (append_assoc (answered s) p.reply (to_come p.stage p.device p.sectors (drop p.taken (drop size l) ++ rest)))
-        ∙ ap (λ (i : List ℕ). (answered s ++ p.reply) ++ to_come p.stage p.device p.sectors (i ++ rest)) (drop-drop p.taken size l)
-    go Nothing e ih = nothing last refl
+    go (Ok r) e ih =
+        let s : Step = step_of d m r.action in
+        let p : Play = play_of last n s.outcome.device s.sectors (drop r.size l) in
+        records_next d m (l ++ rest) (Ok r) (next_stays l rest (ap decided e) ∙ e)
+        ∙ ap (λ (i : List ℕ). answered s ++ records_reply s.outcome.device s.sectors i) (drop-append-le r.size l rest (record_within l r e).1)
+        ∙ ap (λ (i : List ℕ). answered s ++ i) (ih s.outcome.device s.sectors (drop r.size l))
+        ∙ sym (append_assoc (answered s) p.reply (to_come p.stage p.device p.sectors (drop p.taken (drop r.size l) ++ rest)))
+        ∙ ap (λ (i : List ℕ). (answered s ++ p.reply) ++ to_come p.stage p.device p.sectors (i ++ rest)) (drop-drop p.taken r.size l)
+    go (Err Nothing) e ih = nothing last refl
       where
         nothing : (i : Bool) → last ≡ i → Continues (records_reply d m (l ++ rest)) l rest (rests d m [] (pick i Over Replaying))
-        nothing true h = waits Nothing [] e refl true h
+        nothing true h = waits (Err Nothing) [] e refl true h
         nothing false h = refl
-    go Part e ih = waits Part fault_bytes e refl last refl
-    go Malformed e ih = records_next d m (l ++ rest) Malformed (next_stays l rest (ap decided e) ∙ e)
+    go (Err Part) e ih = waits (Err Part) fault_bytes e refl last refl
+    go (Err Malformed) e ih = records_next d m (l ++ rest) (Err Malformed) (next_stays l rest (ap decided e) ∙ e)
 
 open_continues : (last : Bool) (room : ℕ) (d : Device) (m l rest : List ℕ) → Behind last rest → Continues (reply_from d m (l ++ rest)) l rest (open_of last room d m l)
 unfolding open_of to_come reply_from

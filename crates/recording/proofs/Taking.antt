@@ -1,28 +1,32 @@
 -- A turn uses up no more bytes than are there, and what the loop gave it is what it leaves.
-use Prim.Native.Nat.{ℕ, zero, suc, ◌+◌, ◌-◌, ◌/◌, ◌≤◌, ◌<◌}
+use Prim.Native.Nat.{ℕ, zero, suc, ◌+◌, ◌-◌, ◌/◌, ◌≤◌}
 use mathlib.Core.Bool.{Bool, true, false}
 use mathlib.Core.Path.{◌≡◌, refl, sym, ap, ◌∙◌}
 use mathlib.Core.List.{List}
 use native.Mathlib.Omega.{arith}
 use lib.Dec.{ltb, eqb}
 use lib.ListN.{length, get_or, take, drop, length-drop, length-append}
-use lib.Seq.{sets, length-take-le, take_all}
-use borrow.Author.Tests.{ltb-true, ltb-false}
+use lib.Seq.{sets, length-take-le}
+use Rattle.std.proofs.Math.Nat.{min-le_right}
+use Rattle.std.proofs.lemmas.List.{take_min}
+use borrow.Author.Tests.{ltb-false}
+use Rattle.std.specs.Prelude.{min, Result, Ok, Err}
 use Rattle.base.specs.Choice.{pick}
 use Rattle.base.proofs.Tests.{pick_both, pick_each}
 use Rattle.face.specs.declared.Answer.TheVariants.{OutOfShape, WrongLength}
 use Rattle.device.specs.Host.{shaped_of, memory_length, step_of}
 use Rattle.device.specs.declared.Device.{Device}
 use Rattle.records.specs.Records.{next_of}
-use Rattle.records.specs.declared.Found.{Found}
-use Rattle.records.specs.declared.Found.TheVariants.{Record, Nothing, Part, Malformed}
+use Rattle.records.specs.declared.Record.{Record}
+use Rattle.records.specs.declared.NoRecord.{NoRecord}
+use Rattle.records.specs.declared.NoRecord.TheVariants.{Nothing, Part, Malformed}
 use Rattle.records.proofs.Sizes.{record_within}
 use Rattle.playback.specs.Replay.{Play, play_as, play_of}
 use Rattle.player.specs.Parts.{Gives}
 use Rattle.player.specs.declared.Came.{Came}
 use Rattle.playback.specs.declared.Stage.{Stage}
 use Rattle.playback.specs.declared.Stage.TheVariants.{Opening, Replaying, Over}
-use Rattle.recording.specs.Turns.{open_of, turn_as, least_of, Turned, taken_of, turned_away, turn_of, Leaves}
+use Rattle.recording.specs.Turns.{open_of, turn_as, Turned, taken_of, turned_away, turn_of, Leaves}
 use Rattle.recording.specs.declared.Stream.{Stream}
 use Rattle.recording.specs.declared.Turn.{Turn}
 
@@ -37,12 +41,12 @@ unfolding play_of play_as
 play_taken last zero d m l = omega arith
 play_taken last (suc n) d m l = go (next_of l) refl (λ d' m' l'. play_taken last n d' m' l')
   where
-    go : (x : Found) → next_of l ≡ x → ((d' : Device) (m' l' : List ℕ) → (play_of last n d' m' l').taken ≤ length l')
+    go : (x : Result Record NoRecord) → next_of l ≡ x → ((d' : Device) (m' l' : List ℕ) → (play_of last n d' m' l').taken ≤ length l')
         → (play_as last d m l (play_of last n) x).taken ≤ length l
-    go (Record a size) e ih = behind size _ l (record_within l a size e).1 (ih (step_of d m a).outcome.device (step_of d m a).sectors (drop size l))
-    go Nothing e ih = omega arith
-    go Part e ih = pick_both (λ (p : Play). p.taken ≤ length l) last _ _ (omega arith) (omega arith)
-    go Malformed e ih = omega arith
+    go (Ok r) e ih = behind r.size _ l (record_within l r e).1 (ih (step_of d m r.action).outcome.device (step_of d m r.action).sectors (drop r.size l))
+    go (Err Nothing) e ih = omega arith
+    go (Err Part) e ih = pick_both (λ (p : Play). p.taken ≤ length l) last _ _ (omega arith) (omega arith)
+    go (Err Malformed) e ih = omega arith
 
 pub turn_taken : (stage : Stage) (last : Bool) (room : ℕ) (d : Device) (m l : List ℕ) → (turn_as stage last room d m l).taken ≤ length l
 unfolding open_of turn_as
@@ -58,20 +62,10 @@ turn_taken Over last room d m l = omega arith
 
 -- ---- the bytes held
 
-pub least_within : (held size : ℕ) → least_of held size ≤ size
-unfolding least_of
-least_within held size = pick_each (λ (n : ℕ). n ≤ size) (ltb size held) _ _ (λ h. omega arith) (λ h. ltb-false _ _ h)
-
-least_take : (held : ℕ) (l : List ℕ) → take (least_of held (length l)) l ≡ take held l
-unfolding least_of
-least_take held l =
-    pick_each (λ (n : ℕ). take n l ≡ take held l) (ltb (length l) held) _ _
-    (λ h. let k : length l < held = ltb-true _ _ h in take_all (length l) l (omega arith) ∙ sym (take_all held l (omega arith))) (λ h. refl)
-
 pub came_end : (s : Stream) (last : Bool) (m window : List ℕ) (held end : ℕ) (out₀ out : List ℕ) (r : Came) (m' : List ℕ)
-    → end ≡ least_of held (length window) → Gives (turn_as s.stage last (length out₀) s.device m (take end window)) r m' out₀ out → r.taken ≤ end
+    → end ≡ min held (length window) → Gives (turn_as s.stage last (length out₀) s.device m (take end window)) r m' out₀ out → r.taken ≤ end
 came_end s last m window held end out₀ out r m' i g =
-    let w : least_of held (length window) ≤ length window = least_within held (length window) in
+    let w : min held (length window) ≤ length window = min-le_right held (length window) in
     let e : r.taken ≡ (turn_as s.stage last (length out₀) s.device m (take end window)).taken = ap (λ (x : Came). x.taken) g.result in
     let t : (turn_as s.stage last (length out₀) s.device m (take end window)).taken ≤ length (take end window) = turn_taken s.stage last (length out₀) s.device m (take end window) in
     let l : length (take end window) ≡ end = length-take-le end window (omega arith) in
@@ -80,13 +74,13 @@ came_end s last m window held end out₀ out r m' i g =
 -- ---- what a turn leaves
 
 pub leaves_taken : (s : Stream) (last : Bool) (m window : List ℕ) (held end : ℕ) (out₀ out : List ℕ) (r : Came) (m' window' : List ℕ)
-    → end ≡ least_of held (length window) → Gives (turn_as s.stage last (length out₀) s.device m (take end window)) r m' out₀ out
+    → end ≡ min held (length window) → Gives (turn_as s.stage last (length out₀) s.device m (take end window)) r m' out₀ out
     → window' ≡ sets window 0 (drop r.taken (take end window))
     → Leaves (taken_of window (take held window) (turn_as s.stage last (length out₀) s.device m (take held window)))
     (record { number = 0; stream = record { device = r.device; stage = r.stage }; held = end - r.taken; made = r.made }) m' window' out₀ out
 leaves_taken s last m window held end out₀ out r m' window' i g h =
-    let w : least_of held (length window) ≤ length window = least_within held (length window) in
-    let e : take end window ≡ take held window = ap (λ (n : ℕ). take n window) i ∙ least_take held window in
+    let w : min held (length window) ≤ length window = min-le_right held (length window) in
+    let e : take end window ≡ take held window = ap (λ (n : ℕ). take n window) i ∙ take_min held window in
     go (take held window) (sym (ap length e) ∙ length-take-le end window (omega arith)) (rw e at g) (h ∙ ap (λ (l : List ℕ). sets window 0 (drop r.taken l)) e)
   where
     go : (l : List ℕ) → length l ≡ end → Gives (turn_as s.stage last (length out₀) s.device m l) r m' out₀ out

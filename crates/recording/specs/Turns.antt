@@ -36,10 +36,6 @@ turn_as Opening last room d m l = pick (ltb room 4) (rests d m [] Opening) (open
 turn_as Replaying last room d m l = play_of last (room / 5) d m l
 turn_as Over last room d m l = rests d m [] Over
 
--- no more bytes are held than the window has
-unfoldable pub least_of : ℕ → ℕ → ℕ
-least_of held size = pick (ltb size held) size held
-
 -- what a turn leaves: its result, every sector, the window, and the reply that it wrote
 pub record Turned : Type 0 where
   pub turn : Turn

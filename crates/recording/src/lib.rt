@@ -6,11 +6,10 @@ ghost use Rattle.std.proofs.lemmas.List.Edits.{sets};
 ghost use Rattle.device.specs.Host.{Ready};
 ghost use Rattle.playback.specs.Replay.{version_fault};
 ghost use Rattle.player.specs.Parts.{came, Gives};
-ghost use Rattle.recording.specs.Turns.{start_of, behind_version, turn_as, least_of, taken_of, away_of, turn_of, Leaves, whole_play, replayed_of};
+ghost use Rattle.recording.specs.Turns.{start_of, behind_version, turn_as, taken_of, away_of, turn_of, Leaves, whole_play, replayed_of};
 
 use device::Device;
 use face::Answer;
-use geometry::Geometry;
 use playback::Stage;
 use player::Came;
 
@@ -21,7 +20,7 @@ pub struct Stream {
     pub stage: Stage,
 }
 
-// What a turn gives: the answer's number, the replay after it, how many bytes the window still holds, and how many the reply has.
+// What a turn gives, refused or not, so that it is no Result: the answer's number (docs/DECISIONS.md, 62), the replay after it, how many bytes the window still holds, and how many the reply has.
 #[derive(Clone, Copy)]
 pub struct Turn {
     pub number: u8,
@@ -30,7 +29,7 @@ pub struct Turn {
     pub made: usize,
 }
 
-// What the replay of a whole recording gives: the answer's number, how many bytes the reply has, and whether that is all of it.
+// What the replay of a whole recording gives: the answer's number, as a turn's, how many bytes the reply has, and whether that is all of it.
 #[derive(Clone, Copy)]
 pub struct Replayed {
     pub number: u8,
@@ -73,17 +72,11 @@ fn begin(device: Device, sectors: &mut [u8], rec: &[u8], last: bool, out: &mut [
     if out.len() < 4 {
         return player::halt(device, Stage::Opening, 0, 0);
     }
-    if rec.len() < 1 {
-        if last {
-            return version_fault(device, out);
-        }
-        return player::halt(device, Stage::Opening, 0, 0);
+    match rec {
+        [1, ..] => behind_version(device, sectors, rec, last, out),
+        [] if !last => player::halt(device, Stage::Opening, 0, 0),
+        _ => version_fault(device, out),
     }
-    let version = rec[0];
-    if version == 1 {
-        return behind_version(device, sectors, rec, last, out);
-    }
-    version_fault(device, out)
 }
 
 // How far the bytes bring a replay that stands there.
@@ -109,28 +102,14 @@ fn part(
     }
 }
 
-// The bytes from `from` up to `to` move to the front.
+// The bytes from `from` up to `to` move to the front. Slices have no copy_within, and rotating them would move those behind too.
 fn keep(window: &mut [u8], from: usize, to: usize)
     requires { (from ≤ to) × (to ≤ length window.old) }
     ensures { window.new ≡ sets window.old 0 (drop from (take to window.old)) }
 {
-    let size = to - from;
-    let mut moved = 0;
-    while moved < size {
+    for moved in 0..to - from {
         window[moved] = window[from + moved];
-        moved += 1;
     }
-}
-
-// No more bytes are held than the window has.
-#[tactic(auto, unfolding(crate::specs::Turns::least_of))]
-fn least(held: usize, size: usize) -> usize
-    ensures { result ≡ least_of held size }
-{
-    if size < held {
-        return size;
-    }
-    held
 }
 
 impl Stream {
@@ -167,22 +146,22 @@ impl Stream {
         requires { Ready self.device sectors.old }
         ensures { Leaves (taken_of window.old (take held window.old) (turn_as self.stage last (length out.old) self.device sectors.old (take held window.old))) result sectors.new window.new out.old out.new }
     {
-        let stage = self.stage;
-        let end = least(held, window.len());
-        let p = part(stage, self.device, sectors, &window[..end], last, out);
-        let from = p.taken;
-        keep(window, from, end);
-        let device = p.device;
-        let stage = p.stage;
+        let end = held.min(window.len());
+        let p = part(self.stage, self.device, sectors, &window[..end], last, out);
+        keep(window, p.taken, end);
         Turn {
             number: 0,
-            stream: Stream { device, stage },
-            held: end - from,
+            stream: Stream {
+                device: p.device,
+                stage: p.stage,
+            },
+            held: end - p.taken,
             made: p.made,
         }
     }
 
-    // One turn: the first `held` bytes of the window, into `out`; `last` where no byte comes behind them.
+    // One turn: the first `held` bytes of the window, into `out`; `last` where no byte comes behind them. The window is fixed memory, whose
+    // other bytes the next read fills, so a length stands beside it.
     #[tactic(auto, unfolding(crate::specs::Turns::turn_of))]
     pub fn turn(
         self,
@@ -194,17 +173,13 @@ impl Stream {
     ) -> Turn
         ensures { Leaves (turn_of self sectors.old window.old held last (length out.old)) result sectors.new window.new out.old out.new }
     {
-        let device = self.device;
-        let face = device.face;
-        let settled = face.settled;
-        let geometry = settled.geometry;
-        if device.shaped() {
-            if sectors.len() == 512 * (geometry.capacity() as usize) {
-                return self.taken(sectors, window, held, last, out);
-            }
+        if !self.device.shaped() {
+            return self.turned_away(held, Answer::OutOfShape);
+        }
+        if sectors.len() != 512 * (self.device.face.settled.geometry.capacity() as usize) {
             return self.turned_away(held, Answer::WrongLength);
         }
-        self.turned_away(held, Answer::OutOfShape)
+        self.taken(sectors, window, held, last, out)
     }
 }
 
@@ -214,21 +189,19 @@ pub fn replay(rec: &[u8], sectors: &mut [u8], out: &mut [u8]) -> Replayed
         × ((sectors.new ≡ (whole_play rec.now sectors.old (length out.old)).sectors)
         × (out.new ≡ (whole_play rec.now sectors.old (length out.old)).reply ++ drop result.made out.old)) }
 {
-    if sectors.len() == 32768 {
-        block::zero(sectors);
-        let stream = Stream::start();
-        let stage = stream.stage;
-        let p = part(stage, stream.device, sectors, rec, true, out);
-        let stage = p.stage;
+    if sectors.len() != 32768 {
         return Replayed {
-            number: 0,
-            made: p.made,
-            whole: stage.over(),
+            number: Answer::WrongLength.number(),
+            made: 0,
+            whole: false,
         };
     }
+    block::zero(sectors);
+    let stream = Stream::start();
+    let p = part(stream.stage, stream.device, sectors, rec, true, out);
     Replayed {
-        number: 3,
-        made: 0,
-        whole: false,
+        number: Answer::Done.number(),
+        made: p.made,
+        whole: p.stage.over(),
     }
 }

@@ -1,5 +1,4 @@
 pub mod Stores
 pub mod Sizes
-pub mod Lengths
 pub mod Prefixes
 pub mod Rest

@@ -7,22 +7,21 @@ use native.Mathlib.Omega.{arith}
 use lib.Dec.{ltb, eqb}
 use lib.ListN.{length, get_or}
 use borrow.Author.Tests.{ltb-false, eqb-true}
+use Rattle.std.specs.Prelude.{Result, Ok, Err}
 use Rattle.base.specs.Choice.{pick}
 use Rattle.base.proofs.Tests.{pick_both, pick_each}
-use Rattle.face.specs.declared.Action.{Action}
-use Rattle.records.specs.declared.Found.{Found}
-use Rattle.records.specs.declared.Found.TheVariants.{Record, Nothing, Part, Malformed}
+use Rattle.records.specs.declared.Record.{Record}
+use Rattle.records.specs.declared.NoRecord.{NoRecord}
+use Rattle.records.specs.declared.NoRecord.TheVariants.{Part}
 use Rattle.records.specs.Records.{one_byte, two_bytes, three_bytes, payload_of, length_of, next_of}
 
 -- a record's size lies between two bounds
-abbrev pub Within : ℕ → ℕ → Found → Type 0
-Within low high (Record a size) = (low ≤ size) × (size ≤ high)
-Within low high Nothing = Unit
-Within low high Part = Unit
-Within low high Malformed = Unit
+abbrev pub Within : ℕ → ℕ → Result Record NoRecord → Type 0
+Within low high (Ok r) = (low ≤ r.size) × (r.size ≤ high)
+Within low high (Err e) = Unit
 
-sized_within : (n size : ℕ) (x : Found) → (size ≤ n → Within 3 n x) → Within 3 n (pick (ltb n size) Part x)
-sized_within n size x p = pick_each (Within 3 n) (ltb n size) Part x (λ h. tt) (λ h. p (ltb-false _ _ h))
+sized_within : (n size : ℕ) (x : Result Record NoRecord) → (size ≤ n → Within 3 n x) → Within 3 n (pick (ltb n size) (Err Part) x)
+sized_within n size x p = pick_each (Within 3 n) (ltb n size) (Err Part) x (λ h. tt) (λ h. p (ltb-false _ _ h))
 
 one_within : (n kind : ℕ) → 3 ≤ n → Within 3 n (one_byte kind)
 unfolding one_byte
@@ -54,17 +53,15 @@ next_within l =
     pick_both (Within 3 (length l)) (ltb (length l) 1) _ _ tt
     (pick_both (Within 3 (length l)) (ltb (length l) 2) _ _ tt (payload_within (length_of l) l))
 
-pub record_within : (l : List ℕ) (a : Action) (size : ℕ) → next_of l ≡ Record a size → (3 ≤ size) × (size ≤ length l)
-record_within l a size e = rw e at (next_within l)
+pub record_within : (l : List ℕ) (r : Record) → next_of l ≡ Ok r → (3 ≤ r.size) × (r.size ≤ length l)
+record_within l r e = rw e at (next_within l)
 
 -- ---- a record's size is that of its length and of its payload
 
 -- a record's size goes with this length
-abbrev Sized : ℕ → Found → Type 0
-Sized n (Record a size) = size ≡ 2 + n
-Sized n Nothing = Unit
-Sized n Part = Unit
-Sized n Malformed = Unit
+abbrev Sized : ℕ → Result Record NoRecord → Type 0
+Sized n (Ok r) = r.size ≡ 2 + n
+Sized n (Err e) = Unit
 
 one_sized : (kind : ℕ) → Sized 1 (one_byte kind)
 unfolding one_byte
@@ -81,8 +78,8 @@ unfolding three_bytes
 three_sized kind x y = pick_both (Sized 3) (eqb kind 4) _ _ refl (pick_both (Sized 3) (eqb kind 2) _ _ refl tt)
 
 -- what is shown of a length is shown of the byte that has it
-of_length : (k n size : ℕ) (l : List ℕ) (x : Found) → eqb k n ≡ true → Sized n x → Sized k (pick (ltb (length l) size) Part x)
-of_length k n size l x h p = rw (eqb-true k n h) (pick_both (Sized n) (ltb (length l) size) Part x tt p)
+of_length : (k n size : ℕ) (l : List ℕ) (x : Result Record NoRecord) → eqb k n ≡ true → Sized n x → Sized k (pick (ltb (length l) size) (Err Part) x)
+of_length k n size l x h p = rw (eqb-true k n h) (pick_both (Sized n) (ltb (length l) size) (Err Part) x tt p)
 
 payload_sized : (k : ℕ) (l : List ℕ) → Sized k (payload_of k l)
 unfolding payload_of
@@ -98,5 +95,5 @@ next_sized l =
     (pick_both (Sized (length_of l)) (ltb (length l) 2) _ _ tt (payload_sized (length_of l) l))
 
 -- "a two-byte big-endian length and payload"
-pub record_size : (l : List ℕ) (a : Action) (size : ℕ) → next_of l ≡ Record a size → size ≡ 2 + length_of l
-record_size l a size e = rw e at (next_sized l)
+pub record_size : (l : List ℕ) (r : Record) → next_of l ≡ Ok r → r.size ≡ 2 + length_of l
+record_size l r e = rw e at (next_sized l)

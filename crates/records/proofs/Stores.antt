@@ -1,24 +1,20 @@
--- Stores side by side are one piece written; and a piece behind what is written already leaves the rest.
-use Prim.Native.Nat.{ℕ, suc, ◌+◌, ◌≤◌}
-use mathlib.Core.Path.{◌≡◌, sym, ap, ◌∙◌}
-use mathlib.Core.List.{List, [], ◌∷◌, ◌++◌}
+-- A piece written over a part of the bytes is written into them; and a piece behind what is written already leaves the rest.
+use Prim.Native.Nat.{ℕ, ◌+◌, ◌≤◌}
+use mathlib.Core.Path.{◌≡◌, refl, sym, ap, ◌∙◌}
+use mathlib.Core.List.{List, ◌++◌, append_assoc}
 use native.Mathlib.Omega.{arith}
-use lib.ListN.{length, take, drop, set, length-drop, length-append}
+use lib.ListN.{length, take, drop, length-drop, length-append}
+use Rattle.std.proofs.lemmas.List.Edits.{paste_all}
+use Rattle.std.proofs.lemmas.Slice.{put_mid-paste}
+use borrow.Rule.Slice.PartMut.{put_mid}
 use lib.Seq.{sets, sets-eq, take_at, drop-append-add, drop-drop}
 
-pub three_stores : (l : List ℕ) (i a b c : ℕ) → set (set (set l i a) (i + 1) b) (i + 2) c ≡ sets l i (a ∷ b ∷ c ∷ [])
-three_stores l i a b c =
-    let p : i + 1 ≡ suc i = omega arith in
-    let q : i + 2 ≡ suc (suc i) = omega arith in
-    rw (p, q)
-
-pub five_stores : (l : List ℕ) (i a b c d e : ℕ) → set (set (set (set (set l i a) (i + 1) b) (i + 2) c) (i + 3) d) (i + 4) e ≡ sets l i (a ∷ b ∷ c ∷ d ∷ e ∷ [])
-five_stores l i a b c d e =
-    let p : i + 1 ≡ suc i = omega arith in
-    let q : i + 2 ≡ suc (suc i) = omega arith in
-    let r : i + 3 ≡ suc (suc (suc i)) = omega arith in
-    let t : i + 4 ≡ suc (suc (suc (suc i))) = omega arith in
-    rw (p, q, r, t)
+pub written : (out ys zs : List ℕ) (put k : ℕ) → ys ≡ zs → k ≡ length zs → put + length zs ≤ length out → put_mid put k out ys ≡ sets out put zs
+written out ys zs put k e n room =
+    put_mid-paste put k out ys zs (length zs) e (sym n) refl
+    ∙ paste_all out put zs (length zs) refl
+    ∙ sym (append_assoc (take put out) zs (drop (put + length zs) out))
+    ∙ sym (sets-eq zs out put room)
 
 -- `piece` written behind `wrote`, over what stood there
 pub write_behind : (wrote out out₀ piece : List ℕ) (put : ℕ) → out ≡ wrote ++ drop put out₀ → length wrote ≡ put → put + length piece ≤ length out₀

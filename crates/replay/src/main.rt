@@ -12,122 +12,87 @@ struct Streams {
     errors: Stderr,
 }
 
-// After a read: how many bytes the window holds, or the recording's end, or an error.
+// Nothing is left to do: the replay is over, or an error is told.
 #[derive(Clone, Copy)]
-enum Input {
-    Held(usize),
-    End,
-    Failed,
-}
+struct Stop;
 
-// A replay between two reads, how many bytes the window holds, and whether to go on.
-#[derive(Clone, Copy)]
-struct After {
-    stream: Stream,
-    held: usize,
-    on: bool,
-}
-
-// Reads once, behind the bytes that the window holds.
-fn fill(streams: Streams, window: &mut [u8], held: usize) -> Input {
-    if window.len() <= held {
-        return Input::Held(held);
+impl Streams {
+    fn put(mut self, reply: &[u8]) -> Result<(), Stop> {
+        if let Err(error) = self.output.write_all(reply) {
+            let _ = eprintln!(self.errors; "write: {error}");
+            return Err(Stop);
+        }
+        Ok(())
     }
-    let behind = &mut window[held..];
-    let mut input = streams.input;
-    match input.read(behind) {
-        Ok(0) => Input::End,
-        Ok(more) => Input::Held(held + more),
-        Err(error) => {
-            if error.kind() == ErrorKind::Interrupted {
-                return Input::Held(held);
+}
+
+// A replay, the memory lent to it, and how many bytes the window holds.
+#[derive(Drop)]
+struct Replay<'a> {
+    streams: Streams,
+    stream: Stream,
+    sectors: &'a mut [u8],
+    window: &'a mut [u8],
+    held: usize,
+    out: &'a mut [u8],
+}
+
+impl<'a> Replay<'a> {
+    // Reads once, behind the bytes that the window holds; whether the recording ends with them.
+    fn fill(&mut self) -> Result<bool, Stop> {
+        if self.window.len() <= self.held {
+            return Ok(false);
+        }
+        match self.streams.input.read(&mut self.window[self.held..]) {
+            Ok(0) => Ok(true),
+            Ok(more) => {
+                self.held += more;
+                Ok(false)
             }
-            let _ = eprintln!(streams.errors; "read: {error}");
-            Input::Failed
+            Err(error) if error.kind() == ErrorKind::Interrupted => Ok(false),
+            Err(error) => {
+                let _ = eprintln!(self.streams.errors; "read: {error}");
+                Err(Stop)
+            }
         }
     }
-}
 
-// Whether all of the reply is written.
-fn put(streams: Streams, reply: &[u8]) -> bool {
-    let mut output = streams.output;
-    match output.write_all(reply) {
-        Ok(()) => true,
-        Err(error) => {
-            let _ = eprintln!(streams.errors; "write: {error}");
-            false
+    // One read, the turn over what it brought, and its reply written.
+    fn round(&mut self) -> Result<(), Stop> {
+        let last = self.fill()?;
+        let turn = self
+            .stream
+            .turn(self.sectors, self.window, self.held, last, self.out);
+        self.stream = turn.stream;
+        self.held = turn.held;
+        self.streams.put(&self.out[..turn.made])?;
+        if turn.number != 0 || turn.stream.stage.over() {
+            return Err(Stop);
         }
-    }
-}
-
-// One turn over the bytes held, and its reply written.
-fn turn(
-    streams: Streams,
-    stream: Stream,
-    sectors: &mut [u8],
-    window: &mut [u8],
-    held: usize,
-    last: bool,
-    out: &mut [u8],
-) -> After {
-    let t = stream.turn(sectors, window, held, last, out);
-    let made = t.made;
-    let next = t.stream;
-    let stage = next.stage;
-    let written = put(streams, &out[..made]);
-    let over = stage.over();
-    let on = written && !over && t.number == 0;
-    After {
-        stream: next,
-        held: t.held,
-        on,
-    }
-}
-
-// One read, and the turn over what it brought.
-fn round(
-    streams: Streams,
-    stream: Stream,
-    sectors: &mut [u8],
-    window: &mut [u8],
-    held: usize,
-    out: &mut [u8],
-) -> After {
-    match fill(streams, window, held) {
-        Input::Held(now) => turn(streams, stream, sectors, window, now, false, out),
-        Input::End => turn(streams, stream, sectors, window, held, true, out),
-        Input::Failed => After {
-            stream,
-            held,
-            on: false,
-        },
-    }
-}
-
-// Rounds until the replay is over; the count only bounds the loop, and no recording uses it up.
-fn run(streams: Streams, sectors: &mut [u8], window: &mut [u8], out: &mut [u8]) {
-    let mut stream = Stream::start();
-    let mut held = 0;
-    let mut rounds = u64::MAX;
-    while 0 < rounds {
-        rounds -= 1;
-        let after = round(streams, stream, sectors, window, held, out);
-        stream = after.stream;
-        held = after.held;
-        if !after.on {
-            return;
-        }
+        Ok(())
     }
 }
 
 fn main(rt: HostRuntime) {
-    let mut sectors = [0u8; 32768];
-    let mut window = [0u8; 65536];
-    let mut out = [0u8; 131072];
-    let streams = Streams {
-        input: rt.stdin(),
-        output: rt.stdout(),
-        errors: rt.stderr(),
+    let mut sectors = [0; 32768];
+    let mut window = [0; 65536];
+    let mut out = [0; 131072];
+    let mut replay = Replay {
+        streams: Streams {
+            input: rt.stdin(),
+            output: rt.stdout(),
+            errors: rt.stderr(),
+        },
+        stream: Stream::start(),
+        sectors: &mut sectors,
+        window: &mut window,
+        held: 0,
+        out: &mut out,
     };
-    run(streams, &mut sectors, &mut window, &mut out);
+    // The count only bounds the loop: no recording uses it up.
+    for _ in 0..u64::MAX {
+        let Ok(()) = replay.round() else {
+            return;
+        };
+    }
 }

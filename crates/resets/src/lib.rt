@@ -15,10 +15,8 @@ fn drop_purpose(settled: Settled, purpose: Purpose) -> Settled
     ensures { (h : Hot) → (b : List ℕ) → face_with h result b ≡ drop_purpose (face_with h settled b) purpose }
 {
     match purpose {
-        Purpose::Set => settled,
-        Purpose::Unlock => settled,
         Purpose::Erase => settled.unprepare(),
-        Purpose::Disable => settled,
+        _ => settled,
     }
 }
 
@@ -26,9 +24,8 @@ fn drop_purpose(settled: Settled, purpose: Purpose) -> Settled
 fn drop_block(settled: Settled, block: PasswordBlock, buffer: &mut [u8; 512]) -> Settled
     ensures { (h : Hot) → face_with h result buffer.new ≡ drop_block (face_with h settled buffer.old) block }
 {
-    let purpose = block.purpose;
     *buffer = block::zeros();
-    drop_purpose(settled, purpose)
+    drop_purpose(settled, block.purpose)
 }
 
 // What the drop of this transfer clears.
@@ -36,26 +33,19 @@ fn drops(settled: Settled, transfer: Transfer, buffer: &mut [u8; 512]) -> Settle
     ensures { (h : Hot) → face_with h result buffer.new ≡ drop_as (face_with h settled buffer.old) transfer }
 {
     match transfer {
-        Transfer::Idle => settled,
-        Transfer::Reading(r) => settled,
-        Transfer::Writing(r) => settled,
-        Transfer::ReadingBuffer(n) => settled,
-        Transfer::WritingBuffer(n) => settled,
         Transfer::TakingPassword(b) => drop_block(settled, b, buffer),
+        _ => settled,
     }
 }
 
 // A Command write drops the transfer.
 #[tactic(auto, unfolding(crate::specs::Resets::dropped_of))]
-pub fn drop_transfer(hot: Hot, settled: Settled, buffer: &mut [u8; 512]) -> Front
-    ensures { face_with result.hot result.settled buffer.new ≡ dropped_of (face_with hot settled buffer.old) }
+pub fn drop_transfer(front: Front, buffer: &mut [u8; 512]) -> Front
+    ensures { face_with result.hot result.settled buffer.new ≡ dropped_of (face_with front.hot front.settled buffer.old) }
 {
-    let transfer = hot.transfer;
-    let left = drops(settled, transfer, buffer);
-    let idle = hot.with_transfer(Transfer::Idle);
     Front {
-        hot: idle,
-        settled: left,
+        hot: front.hot.with_transfer(Transfer::Idle),
+        settled: drops(front.settled, front.hot.transfer, buffer),
     }
 }
 
@@ -64,9 +54,10 @@ pub fn powered_on(settled: Settled, buffer: &mut [u8; 512]) -> Front
     ensures { (h : Hot) → face_with result.hot result.settled buffer.new ≡ powered_on_face (face_with h settled buffer.old) }
 {
     *buffer = block::zeros();
-    let hot = Hot::start();
-    let left = settled.power_on();
-    Front { hot, settled: left }
+    Front {
+        hot: Hot::start(),
+        settled: settled.power_on(),
+    }
 }
 
 // Device Control bit 2.
@@ -109,20 +100,23 @@ fn soft_reset(settled: Settled, masked: bool, buffer: &mut [u8; 512]) -> Front
     ensures { (h : Hot) → face_with result.hot result.settled buffer.new ≡ soft_reset_of (face_with h settled buffer.old) masked }
 {
     *buffer = block::zeros();
-    let hot = held(masked);
-    let left = settled.reset();
-    Front { hot, settled: left }
+    Front {
+        hot: held(masked),
+        settled: settled.reset(),
+    }
 }
 
 // A write to Device Control.
 #[tactic(auto, unfolding(crate::specs::Control::control_of))]
-pub fn control(hot: Hot, settled: Settled, v: u8, buffer: &mut [u8; 512]) -> Front
-    ensures { face_with result.hot result.settled buffer.new ≡ control_of (face_with hot settled buffer.old) v }
+pub fn control(front: Front, v: u8, buffer: &mut [u8; 512]) -> Front
+    ensures { face_with result.hot result.settled buffer.new ≡ control_of (face_with front.hot front.settled buffer.old) v }
 {
     let masked = nien(v);
     if srst(v) {
-        return soft_reset(settled, masked, buffer);
+        return soft_reset(front.settled, masked, buffer);
     }
-    let left = released(hot, masked);
-    Front { hot: left, settled }
+    Front {
+        hot: released(front.hot, masked),
+        ..front
+    }
 }

@@ -7,7 +7,7 @@ use native.Mathlib.Omega.{arith}
 use lib.Dec.{ltb}
 use borrow.Author.Tests.{lt-ltb}
 use Rattle.base.specs.Choice.{pick}
-use Rattle.base.proofs.Tests.{zero≢one, false≢true, pick_both, pick_each, either_way}
+use Rattle.base.proofs.Tests.{false≢true, pick_both, pick_each, either_way}
 use Rattle.lock.specs.Lock.{is_locked, is_frozen, exhausted_of}
 use Rattle.lock.specs.declared.Security.{Security}
 use Rattle.lock.specs.declared.Secrets.{Secrets}
@@ -106,10 +106,10 @@ word_five : (f : Face) (x : Secrets) (m : List ℕ) (w : ℕ) (t : Transfer) (n 
 word_five f x m w Idle n k q = q
 word_five f x m w (Reading r) n k q = q
 word_five f x m w (Writing r) n k q =
-    five_left (write_word_settles (left_closed f.settled.security.attempts) f x m w (Writing r) (λ b e. absurd (zero≢one (cc))) refl) q
+    five_left (write_word_settles (left_closed f.settled.security.attempts) f x m w (Writing r) (λ b e. cc) refl) q
 word_five f x m w (ReadingBuffer i) n k q = q
 word_five f x m w (WritingBuffer i) n k q =
-    five_left (write_word_settles (left_closed f.settled.security.attempts) f x m w (WritingBuffer i) (λ b e. absurd (zero≢one (cc))) refl) q
+    five_left (write_word_settles (left_closed f.settled.security.attempts) f x m w (WritingBuffer i) (λ b e. cc) refl) q
 word_five f x m w (TakingPassword b) n k q = password_five f x b w n k q
 
 act_five : (d : Device) (m : List ℕ) (a : Action) (n : ℕ) → transfer_fits d.face.settled d.face.hot.transfer ≡ true → Five (security_in d) n

@@ -1,8 +1,7 @@
 -- Document 01's twelve numbers, as a single list ("Numbers to settle by proof and by run").
-use Rattle.std.specs.Prelude.{ℕ, ◌<◌, ◌≡◌, Bool, true, false, List, ◌∷◌, length, drop, replicate}
+use Rattle.std.specs.Prelude.{ℕ, ◌<◌, ◌≡◌, Bool, true, false, List, ◌∷◌, length, drop, replicate, Some}
 use Rattle.geometry.specs.Geometry.{capacity_of}
 use Rattle.geometry.specs.Translation.{factory_of, initialized_of}
-use Rattle.geometry.specs.declared.Initialized.TheVariants.{To}
 use Rattle.address.specs.Registers.{lba_selected}
 use Rattle.address.specs.Address.{names, address_of}
 use Rattle.address.specs.declared.AddressRegisters.{AddressRegisters}
@@ -48,5 +47,5 @@ pub record TwelveNumbers : Type 0 where
   pub number8 : (a : ℕ) (p : Bool) → 0 < a → security_word (settings Locked true false a p) ≡ 0x0007
   pub number9 : (p : Bool) → security_word (settings Locked true true 0 p) ≡ 0x0117
   pub number10 : (a : ℕ) (p : Bool) → 0 < a → security_word (settings Frozen true false a p) ≡ 0x000B
-  pub number11 : initialized_of small 8 0 ≡ To (record { cylinders = 8; heads = 1; sectors = 8 })
+  pub number11 : initialized_of small 8 0 ≡ Some (record { cylinders = 8; heads = 1; sectors = 8 })
   pub number12 : (i : Identity) (p m : List ℕ) → identity_fits i ≡ true → length m ≡ 32768 → EndsAfter256 step_of (fresh_of small i p) m

@@ -5,7 +5,7 @@ ghost use Rattle.std.specs.Prelude.{◌≡◌};
 ghost use Rattle.shape.specs.Shape.{run_fits, password_fits, transfer_fits, held_fits, parts_fit};
 
 use address::Address;
-use face::{Hot, Run, Transfer};
+use face::{Front, Hot, Run, Transfer};
 use lock::{Purpose, Security};
 use settled::Settled;
 
@@ -14,16 +14,8 @@ use settled::Settled;
 fn run_fits(settled: Settled, run: Run) -> bool
     ensures { result ≡ run_fits settled run }
 {
-    let security = settled.security;
-    let lock = security.lock;
-    let at = run.at;
-    if lock.locked() {
-        return false;
-    }
-    let Address::Names(sector) = transfers::located(settled, at) else {
-        return false;
-    };
-    true
+    !settled.security.lock.locked()
+        && matches!(transfers::located(settled, run.at), Address::Names(_))
 }
 
 // A password transfer: not while frozen; SET and DISABLE not while locked; UNLOCK and ERASE UNIT not without attempts; ERASE UNIT
@@ -37,27 +29,19 @@ fn password_fits(security: Security, purpose: Purpose) -> bool
         return false;
     }
     match purpose {
-        Purpose::Set => lock.open(),
+        Purpose::Set | Purpose::Disable => lock.open(),
         Purpose::Unlock => !security.exhausted(),
         Purpose::Erase => !security.cannot_erase(),
-        Purpose::Disable => lock.open(),
     }
 }
 
 fn transfer_fits(settled: Settled, transfer: Transfer) -> bool
     ensures { result ≡ transfer_fits settled transfer }
 {
-    let security = settled.security;
     match transfer {
-        Transfer::Idle => true,
-        Transfer::Reading(r) => run_fits(settled, r),
-        Transfer::Writing(r) => run_fits(settled, r),
-        Transfer::ReadingBuffer(n) => true,
-        Transfer::WritingBuffer(n) => true,
-        Transfer::TakingPassword(b) => {
-            let purpose = b.purpose;
-            password_fits(security, purpose)
-        }
+        Transfer::Reading(r) | Transfer::Writing(r) => run_fits(settled, r),
+        Transfer::TakingPassword(b) => password_fits(settled.security, b.purpose),
+        _ => true,
     }
 }
 
@@ -66,23 +50,13 @@ fn transfer_fits(settled: Settled, transfer: Transfer) -> bool
 fn held_fits(hot: Hot) -> bool
     ensures { result ≡ held_fits hot }
 {
-    if hot.signals.held {
-        return hot.idle();
-    }
-    true
+    !hot.signals.held || hot.idle()
 }
 
 // The clauses of answer 2, but for DEV.
 #[tactic(auto, unfolding(crate::specs::Shape::parts_fit))]
-pub fn fits(settled: Settled, hot: Hot) -> bool
-    ensures { result ≡ parts_fit settled hot }
+pub fn fits(front: Front) -> bool
+    ensures { result ≡ parts_fit front.settled front.hot }
 {
-    let transfer = hot.transfer;
-    if settled.fits() {
-        if held_fits(hot) {
-            return transfer_fits(settled, transfer);
-        }
-        return false;
-    }
-    false
+    front.settled.fits() && held_fits(front.hot) && transfer_fits(front.settled, front.hot.transfer)
 }

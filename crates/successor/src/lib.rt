@@ -9,14 +9,16 @@ use address::AddressRegisters;
 use geometry::Translation;
 
 // The lowest 28 bits of n as LBA; the high nibble of Device/Head stays.
-fn with_lba(mut registers: AddressRegisters, n: u32) -> AddressRegisters
+fn with_lba(registers: AddressRegisters, n: u32) -> AddressRegisters
     ensures { result ≡ with_lba registers n }
 {
-    registers.sector = (n % 256) as u8;
-    registers.low = (n / 256 % 256) as u8;
-    registers.high = (n / 65536 % 256) as u8;
-    registers.head = registers.head / 16 * 16 + (n / 16777216 % 16) as u8;
-    registers
+    let [sector, low, high, top] = n.to_le_bytes();
+    AddressRegisters {
+        sector,
+        low,
+        high,
+        head: registers.head / 16 * 16 + top % 16,
+    }
 }
 
 #[tactic(auto, unfolding(address::specs::Registers::lba_of, address::specs::Registers::head_of, crate::specs::Successor::lba_successor))]
@@ -27,20 +29,25 @@ fn lba_successor(registers: AddressRegisters) -> AddressRegisters
 }
 
 #[tactic(auto, unfolding(address::specs::Registers::head_of, crate::specs::Successor::chs_successor))]
-fn chs_successor(mut registers: AddressRegisters, t: Translation) -> AddressRegisters
+fn chs_successor(registers: AddressRegisters, t: Translation) -> AddressRegisters
     ensures { result ≡ chs_successor t registers }
 {
     if registers.sector < t.sectors {
-        registers.sector = registers.sector + 1;
-        return registers;
+        return AddressRegisters {
+            sector: registers.sector + 1,
+            ..registers
+        };
     }
-    let h = registers.head_number() + 1;
-    let c = (registers.cylinder() as u32) + 1;
-    registers.sector = 1;
-    if h < t.heads {
-        return registers.with_head(h);
+    let first = AddressRegisters {
+        sector: 1,
+        ..registers
+    };
+    let head = registers.head_number() + 1;
+    if head < t.heads {
+        return first.with_head(head);
     }
-    registers.with_head(0).with_cylinder(c)
+    let cylinder = u32::from(registers.cylinder()) + 1;
+    first.with_head(0).with_cylinder(cylinder)
 }
 
 // The registers of the next address, good or bad.
@@ -49,7 +56,8 @@ pub fn successor(registers: AddressRegisters, t: Translation) -> AddressRegister
     ensures { result ≡ successor_of t registers }
 {
     if registers.lba_selected() {
-        return lba_successor(registers);
+        lba_successor(registers)
+    } else {
+        chs_successor(registers, t)
     }
-    chs_successor(registers, t)
 }

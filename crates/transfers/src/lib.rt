@@ -10,7 +10,7 @@ use face::{Answer, Face, Hot, Registers, Run, Transfer};
 use geometry::Translation;
 use settled::Settled;
 
-// What an action on the face shows.
+// What an action on the face shows: as in face::Seen, any answer beside any value.
 #[derive(Clone, Copy)]
 pub struct Told {
     pub face: Face,
@@ -32,9 +32,7 @@ pub fn tells(face: Face, answer: Answer, value: u16) -> Told
 pub fn located(settled: Settled, at: AddressRegisters) -> Address
     ensures { result ≡ located settled at }
 {
-    let geometry = settled.geometry;
-    let translation = settled.translation;
-    at.address(geometry, translation)
+    at.address(settled.geometry, settled.translation)
 }
 
 // How many sectors come after the first: Sector Count 0 is 256.
@@ -42,16 +40,15 @@ pub fn located(settled: Settled, at: AddressRegisters) -> Address
 pub fn after_first(count: u8) -> u8
     ensures { result ≡ after_of count }
 {
-    ((count as u16 + 255) % 256) as u8
+    count.wrapping_sub(1)
 }
 
 // The run of a command's first sector.
 pub fn first_run(regs: Registers) -> Run
     ensures { result ≡ first_run regs }
 {
-    let at = regs.at;
     Run {
-        at,
+        at: regs.at,
         after: after_first(regs.count),
         word: 0,
     }
@@ -62,10 +59,8 @@ pub fn next_run(run: Run, translation: Translation) -> Run
     requires { 0 < run.after }
     ensures { result ≡ next_run run translation }
 {
-    let here = run.at;
-    let at = successor::successor(here, translation);
     Run {
-        at,
+        at: successor::successor(run.at, translation),
         after: run.after - 1,
         word: 0,
     }
@@ -75,25 +70,22 @@ pub fn next_run(run: Run, translation: Translation) -> Run
 pub fn abort(face: Face) -> Face
     ensures { result ≡ abort_face face }
 {
-    let hot = face.hot;
-    face.with_hot(hot.abort())
+    face.with_hot(face.hot.abort())
 }
 
 // A command ends well.
 pub fn finish(face: Face) -> Face
     ensures { result ≡ finish_face face }
 {
-    let hot = face.hot;
-    face.with_hot(hot.finish())
+    face.with_hot(face.hot.finish())
 }
 
 // A bad address ends a sector command: the address, and the sectors left including it, 256 shown as 00h.
 pub fn missed(hot: Hot, run: Run) -> Hot
     ensures { result ≡ missed_of hot run }
 {
-    let at = run.at;
-    let left = ((run.after as u16 + 1) % 256) as u8;
-    hot.ended_at(at, left).fail(0x10)
+    let left = run.after.wrapping_add(1);
+    hot.ended_at(run.at, left).fail(0x10)
 }
 
 // A data word with no transfer that way.
@@ -119,8 +111,7 @@ fn read_buffer_word(face: Face, word: u8) -> Face
 pub fn buffer_word(face: Face, n: u8) -> Told
     ensures { result ≡ buffer_word face n }
 {
-    let buffer = face.buffer;
-    let value = block::word_at(&buffer, n);
+    let value = block::word_at(&face.buffer, n);
     tells(read_buffer_word(face, n), Answer::Done, value)
 }
 

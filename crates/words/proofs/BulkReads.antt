@@ -36,7 +36,7 @@ use Rattle.device.proofs.FastStep.{quick_settles}
 use Rattle.laws.specs.Sessions.{Rules}
 use Rattle.laws.proofs.ReadBack.{words_from}
 use Rattle.glance.specs.Places.{place_of, run_placed_at, placed_at, hot_at}
-use Rattle.glance.specs.Glances.{hands_out, read_glance, glance_of, glance_buffer}
+use Rattle.glance.specs.Glances.{shows, hands_out, read_glance, glance_of, glance_buffer}
 use Rattle.glance.proofs.Glancing.{hot_same, glance_settles, glance_buffer_law}
 use Rattle.words.specs.Words.{Handed, hands_none, hands_first, read_words_of}
 use Rattle.words.specs.Blocks.{face_at, read_up_to}
@@ -65,7 +65,7 @@ word_on : (h : Hot) (s : Settled) (b : List ℕ) (x : Secrets) (m : List ℕ) (p
 unfolding glance_of read_glance glance_buffer
 word_on h s b x m p raised o l =
     quick_settles (device_with (hot_at h p raised) s b x) m ReadWord b (seen (hot_at h (p + 1) raised) Done (word_at b p))
-    (glance_settles h p raised b ReadWord (p + 1) raised (word_at b p) (simp (o, lt-ltb p 255 l)))
+    (glance_settles h p raised b ReadWord (shows (p + 1) raised (word_at b p)) (simp (o, lt-ltb p 255 l)))
     (glance_buffer_law h p raised b ReadWord)
 
 -- so many of them

@@ -37,7 +37,7 @@ use Rattle.device.proofs.FastStep.{quick_settles}
 use Rattle.laws.specs.Sessions.{Rules}
 use Rattle.laws.proofs.ReadBack.{put_all}
 use Rattle.glance.specs.Places.{place_of, run_placed_at, placed_at, hot_at}
-use Rattle.glance.specs.Glances.{takes_in, write_glance, write_glance_buffer, glance_of, glance_buffer}
+use Rattle.glance.specs.Glances.{shows, takes_in, write_glance, write_glance_buffer, glance_of, glance_buffer}
 use Rattle.glance.proofs.Glancing.{hot_same, glance_settles, glance_buffer_law}
 use Rattle.words.specs.Words.{Taken, takes_none, taken_behind, write_words_of}
 use Rattle.words.specs.Blocks.{face_at, takes_to, takes_here, block_taken, block_stored, written_up_to, stored_up_to}
@@ -109,7 +109,7 @@ word_in_law h s b x m p raised w o l =
     let buffer : word_put b p w ≡ glance_buffer h p b (WriteWord w) = simp (o, lt-ltb p 255 l) in
     here_step (device_with (hot_at h p raised) s b x) m (WriteWord w) (takes_within h.transfer p o l)
     ∙ quick_settles (device_with (hot_at h p raised) s b x) m (WriteWord w) (word_put b p w) (seen (hot_at h (p + 1) raised) Done 0)
-    (glance_settles h p raised b (WriteWord w) (p + 1) raised 0 (simp (o, lt-ltb p 255 l)))
+    (glance_settles h p raised b (WriteWord w) (shows (p + 1) raised 0) (simp (o, lt-ltb p 255 l)))
     (buffer ∙ glance_buffer_law h p raised b (WriteWord w))
 
 -- so many of them

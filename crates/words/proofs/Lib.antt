@@ -1,4 +1,3 @@
-pub mod Moving
 pub mod Bytes
 pub mod BulkReads
 pub mod ReadLoop

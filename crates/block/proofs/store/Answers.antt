@@ -1,7 +1,9 @@
--- After each turn one byte more of the sector is the block's, and all others are as they were.
-use Rattle.block.proofs.Copies.{copied_more}
+-- What is written to a part of the memory is pasted there.
+use Rattle.std.proofs.lemmas.Slice.{put_mid-paste}
+use Rattle.block.specs.Sectors.{stored_at}
 use native.Mathlib.Omega.{arith}
 use Rattle.block.proofs.store.Goals as goal
 
-pub loop-stored-preserved : goal.loop-stored-preserved
-loop-stored-preserved c = copied_more _ _ c.loop-stored.invariant (omega arith) (omega arith) (omega arith)
+pub returns : goal.returns
+unfolding stored_at
+returns c = put_mid-paste _ _ _ _ c.args.block 512 c.copy_from_slice.ensures.after (omega arith) (omega arith)

@@ -3,4 +3,4 @@ use Rattle.commands.proofs.Memories.{begun_fits}
 use Rattle.commands.proofs.command.Goals as goal
 
 pub stations-requires : goal.stations-requires
-stations-requires c = begun_fits _ _ c.begun-front.ensures c.requires
+stations-requires c = begun_fits _ _ c.begun-begun.ensures c.requires

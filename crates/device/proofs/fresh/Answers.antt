@@ -2,4 +2,4 @@
 use Rattle.device.proofs.fresh.Goals as goal
 
 pub returns : goal.returns
-returns c = simp (c.powered_on-face.ensures, c.with_settled.ensures, c.zero_face.ensures, c.fresh-settled.ensures, c.fresh-secrets.ensures)
+returns c = simp (c.powered_on-face.ensures, c.with_settled.ensures, c.fresh-settled.ensures, c.fresh-secrets.ensures)

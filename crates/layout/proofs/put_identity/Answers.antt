@@ -4,4 +4,4 @@ use borrow.Author.Rules.{rules}
 use Rattle.layout.proofs.put_identity.Goals as goal
 
 pub returns : goal.returns
-returns c = rw (c.put_bytes-3.ensures, c.put_bytes-2.ensures, c.put_bytes.ensures) (put_identity c.args.state.now c.args.identity.serial c.args.identity.firmware c.args.identity.model (search rules) (search rules) (search rules))
+returns c = rw (c.put-3.ensures, c.put-2.ensures, c.put.ensures) (put_identity c.args.state.now c.args.identity.serial c.args.identity.firmware c.args.identity.model (search rules) (search rules) (search rules))

@@ -1,70 +1,41 @@
 -- Each record that the fast path settles lies on the way, and so does each run of glances behind it; where it settles none, the way ends.
 use Rattle.fastpath.proofs.Slow.{quick_slow}
-use Rattle.loops.proofs.Onward.{onward_ends, onward_quick, onward_then, rests_slow, swift_full, swift_rests, way_as}
-use Rattle.loops.specs.Ways.{stand_at, swift_as, way_at}
-use Rattle.records.proofs.Rest.{rest_starts, rest_within}
+use Rattle.loops.proofs.Onward.{onward_ends, onward_settled, onward_then, rests_slow, swift_full, swift_rests, way_as}
+use Rattle.loops.specs.Ways.{swift_as}
+use Rattle.records.proofs.Rest.{rest_starts, next_place}
 use mathlib.Core.Path.{refl, sym, ◌∙◌}
 use native.Mathlib.Omega.{arith}
 use Rattle.loops.proofs.swift.Goals as goal
 
-pub overflow_add-at : goal.overflow_add-at
-overflow_add-at c =
-    let w = rest_within c.args.rec.now c.loop-left.at _ _ (rest_starts c.args.rec.now c.loop-left.at _ _ c.next.ensures c.in-Record.is) in
-    omega (arith, w, c.loop-left.invariant.stands.below)
+pub overflow_add-here : goal.overflow_add-here
+overflow_add-here c = omega (arith, next_place _ _ _ _ c.loop-here.invariant.stands.below c.next.ensures c.in-Ok.is)
 
-pub glide-far-requires : goal.glide-far-requires
-glide-far-requires c =
-    let s = onward_quick c.args.rec.now (way_at (stand_at c.loop-left.hot c.loop-left.at c.loop-left.put c.loop-left.left) c.loop-left.buffer c.loop-left.out)
-    c.loop-left.invariant.stands c.loop-left-test.true _ _ (rest_starts c.args.rec.now c.loop-left.at _ _ c.next.ensures c.in-Record.is) _
-    (sym c.quick.ensures.0 ∙ c.in-Settles.is) _ c.quick.ensures.1 _ c.answer.ensures in
-    rw c.standing.ensures s.stands
+pub glide-here-requires-then-not-idle : goal.glide-here-requires-then-not-idle
+glide-here-requires-then-not-idle c =
+    (onward_settled c.loop-here.invariant.stands c.loop-here-test.true c.next.ensures c.in-Ok.is c.quick.ensures.0 c.in-Some.is c.quick.ensures.1 c.answer.ensures c.standing-here.ensures).stands
 
-pub loop-left-preserved-then-not-idle : goal.loop-left-preserved-then-not-idle
-loop-left-preserved-then-not-idle c =
-    onward_then c.loop-left.invariant
-    (onward_then
-    (onward_quick c.args.rec.now (way_at (stand_at c.loop-left.hot c.loop-left.at c.loop-left.put c.loop-left.left) c.loop-left.buffer c.loop-left.out)
-    c.loop-left.invariant.stands c.loop-left-test.true _ _ (rest_starts c.args.rec.now c.loop-left.at _ _ c.next.ensures c.in-Record.is) _
-    (sym c.quick.ensures.0 ∙ c.in-Settles.is) _ c.quick.ensures.1 _ c.answer.ensures)
-    (rw c.standing.ensures at c.glide-far.ensures))
+pub loop-here-preserved-then-not-idle : goal.loop-here-preserved-then-not-idle
+loop-here-preserved-then-not-idle c =
+    onward_then c.loop-here.invariant
+    (onward_then (onward_settled c.loop-here.invariant.stands c.loop-here-test.true c.next.ensures c.in-Ok.is c.quick.ensures.0 c.in-Some.is c.quick.ensures.1 c.answer.ensures c.standing-here.ensures) c.glide-here-then-not-idle.ensures)
 
-pub loop-left-preserved : goal.loop-left-preserved
-loop-left-preserved c =
-    onward_then c.loop-left.invariant
-    (onward_quick c.args.rec.now (way_at (stand_at c.loop-left.hot c.loop-left.at c.loop-left.put c.loop-left.left) c.loop-left.buffer c.loop-left.out)
-    c.loop-left.invariant.stands c.loop-left-test.true _ _ (rest_starts c.args.rec.now c.loop-left.at _ _ c.next.ensures c.in-Record.is) _
-    (sym c.quick.ensures.0 ∙ c.in-Settles.is) _ c.quick.ensures.1 _ c.answer.ensures)
+pub loop-here-preserved : goal.loop-here-preserved
+loop-here-preserved c =
+    onward_then c.loop-here.invariant
+    (onward_settled c.loop-here.invariant.stands c.loop-here-test.true c.next.ensures c.in-Ok.is c.quick.ensures.0 c.in-Some.is c.quick.ensures.1 c.answer.ensures c.standing-here.ensures)
 
-pub returns-in-Slow : goal.returns-in-Slow
-returns-in-Slow c =
-    let slow = sym c.quick.ensures.0 ∙ c.in-Slow.is in
-    rw c.standing-in-Slow.ensures
-    (way_as (c.quick.ensures.1 ∙ quick_slow _ _ _ slow)
-    (onward_ends (onward_then c.glide-start.ensures c.loop-left.invariant)
-    (swift_rests _ _ _ _ (rest_starts c.args.rec.now c.loop-left.at _ _ c.next.ensures c.in-Record.is) (rests_slow _ _ _ slow))))
+pub returns-after-loop-here : goal.returns-after-loop-here
+returns-after-loop-here c = onward_ends (onward_then c.glide-here.ensures c.loop-here.invariant) (swift_full _ _ _ c.loop-here-test.false)
 
-pub returns-in-Nothing : goal.returns-in-Nothing
+pub returns-in_default : goal.returns-in_default
 unfolding swift_as
-returns-in-Nothing c =
-    rw c.standing-in-Nothing.ensures
-    (onward_ends (onward_then c.glide-start.ensures c.loop-left.invariant)
-    (swift_rests _ _ _ _ (rest_starts c.args.rec.now c.loop-left.at _ _ c.next.ensures c.in-Nothing.is) (λ rest. refl)))
+returns-in_default c =
+    onward_ends (onward_then c.glide-here.ensures c.loop-here.invariant)
+    (swift_rests _ _ _ _ (rest_starts c.args.rec.now c.loop-here.here.at _ _ c.next.ensures c.in_default.is) (λ rest. refl))
 
-pub returns-in-Part : goal.returns-in-Part
-unfolding swift_as
-returns-in-Part c =
-    rw c.standing-in-Part.ensures
-    (onward_ends (onward_then c.glide-start.ensures c.loop-left.invariant)
-    (swift_rests _ _ _ _ (rest_starts c.args.rec.now c.loop-left.at _ _ c.next.ensures c.in-Part.is) (λ rest. refl)))
-
-pub returns-in-Malformed : goal.returns-in-Malformed
-unfolding swift_as
-returns-in-Malformed c =
-    rw c.standing-in-Malformed.ensures
-    (onward_ends (onward_then c.glide-start.ensures c.loop-left.invariant)
-    (swift_rests _ _ _ _ (rest_starts c.args.rec.now c.loop-left.at _ _ c.next.ensures c.in-Malformed.is) (λ rest. refl)))
-
-pub returns : goal.returns
-returns c =
-    rw c.standing-2.ensures
-    (onward_ends (onward_then c.glide-start.ensures c.loop-left.invariant) (swift_full _ _ _ c.loop-left-test.false))
+pub returns-in_default-quick : goal.returns-in_default-quick
+returns-in_default-quick c =
+    let slow = sym c.quick.ensures.0 ∙ c.in_default-quick.is in
+    way_as (c.quick.ensures.1 ∙ quick_slow _ _ _ slow)
+    (onward_ends (onward_then c.glide-here.ensures c.loop-here.invariant)
+    (swift_rests _ _ _ _ (rest_starts c.args.rec.now c.loop-here.here.at _ _ c.next.ensures c.in-Ok.is) (rests_slow _ _ slow)))

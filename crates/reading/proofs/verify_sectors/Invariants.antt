@@ -6,7 +6,4 @@ use mathlib.Core.List.{List}
 use Rattle.reading.proofs.verify_sectors.Given as goal
 
 abbrev pub invariant-loop-after : goal.invariant-loop-after
-invariant-loop-after l = (b : List ℕ) → Verifying (face_with l.hot l.settled b) l.initial.after l.initial.at l.after l.at
-
-abbrev pub decreases-loop-after : goal.decreases-loop-after
-decreases-loop-after l = l.after
+invariant-loop-after l = (b : List ℕ) → Verifying (face_with l.front.hot l.front.settled b) l.initial.after l.initial.at l.after l.at

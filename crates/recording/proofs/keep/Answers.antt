@@ -4,7 +4,7 @@ use native.Mathlib.Omega.{arith}
 use Rattle.recording.proofs.keep.Goals as goal
 
 pub loop-moved-preserved : goal.loop-moved-preserved
-loop-moved-preserved c = keeping_more c.loop-moved.invariant c.loop-moved-test.true
+loop-moved-preserved c = keeping_more c.loop-moved.invariant (omega arith)
 
 pub returns : goal.returns
 returns c = keeping_done c.loop-moved.invariant (omega arith)

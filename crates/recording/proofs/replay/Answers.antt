@@ -5,12 +5,13 @@ use lib.ListN.{length}
 use mathlib.Core.Path.{ap, ◌∙◌}
 use Rattle.recording.proofs.replay.Goals as goal
 
-pub part-p-requires : goal.part-p-requires
-part-p-requires c = replay_ready _ _ c.start-stream.ensures (ap length c.zero.ensures ∙ zeroed_length _ ∙ c.if-sectors-eq32768.true)
+pub returns-then-sectors-ne32768 : goal.returns-then-sectors-ne32768
+returns-then-sectors-ne32768 c = rw c.number.ensures (replays_nothing _ _ _ c.if-sectors-ne32768.true)
 
-pub returns-then-sectors-eq32768 : goal.returns-then-sectors-eq32768
-returns-then-sectors-eq32768 c =
-    replays _ _ _ _ _ _ _ _ _ c.if-sectors-eq32768.true c.start-stream.ensures c.zero.ensures c.part-p.ensures c.over.ensures
+pub part-p-requires : goal.part-p-requires
+part-p-requires c = replay_ready _ _ c.start-stream.ensures (ap length c.zero.ensures ∙ zeroed_length _ ∙ c.if-sectors-ne32768.false)
 
 pub returns : goal.returns
-returns c = replays_nothing _ _ _ c.if-sectors-eq32768.false
+returns c =
+    rw c.number-2.ensures
+    (replays _ _ _ _ _ _ _ _ _ c.if-sectors-ne32768.false c.start-stream.ensures c.zero.ensures c.part-p.ensures c.over.ensures)

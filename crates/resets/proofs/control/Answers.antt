@@ -6,4 +6,4 @@ use Rattle.resets.proofs.control.Goals as goal
 
 pub returns-then-srst : goal.returns-then-srst
 unfolding control_of
-returns-then-srst c = grind (arith, picks, c.soft_reset.ensures c.args.hot)
+returns-then-srst c = grind (arith, picks, c.soft_reset.ensures c.args.front.hot)

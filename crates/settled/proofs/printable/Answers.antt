@@ -1,10 +1,17 @@
--- After each turn `all` says whether the bytes so far are printable; the rest decides with it.
-use Rattle.settled.proofs.Printing.{seen_done, seen_more}
-use native.Mathlib.Omega.{arith}
+-- The fold over the bytes is whether all are printable.
+use Rattle.std.proofs.lemmas.Iterator.{YieldsList-from_slice}
+use Rattle.std.proofs.lemmas.Iterator.Consumers.{fold_from_yields_List}
+use Rattle.settled.proofs.Printing.{fold_printable}
+use Rattle.settled.specs.Identity.{plain}
+use mathlib.Core.Bool.{true, ◌&&◌}
+use mathlib.Core.Path.{◌∙◌}
+use borrow.Author.Rules.{rules}
+use borrow.Author.Tests.{tests}
 use Rattle.settled.proofs.printable.Goals as goal
 
-pub loop-seen-preserved : goal.loop-seen-preserved
-loop-seen-preserved c = seen_more c.loop-seen.invariant (omega arith) c.plain-all.ensures
-
 pub returns : goal.returns
-returns c = seen_done c.loop-seen.invariant (omega arith)
+returns c =
+    fold_from_yields_List _ (λ a x. a && plain x) true _ c.fold.ensures.ran
+    (YieldsList-from_slice c.args.text.now (cc))
+    (λ a x r q k. search (rules, tests))
+    ∙ fold_printable c.args.text.now

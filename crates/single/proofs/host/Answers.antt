@@ -1,12 +1,17 @@
 -- Let in, the call is the device's action; turned away, it leaves everything.
-use Rattle.lent.proofs.Lending.{away_gives, lent_ready, low_bytes, other_refuses, zero_admits}
+use Rattle.lent.proofs.Lending.{admitted, away_gives, low_bytes, other_gives, other_refuses, ready_gives}
+use mathlib.Core.Path.{sym}
+use native.Mathlib.Omega.{arith}
 use Rattle.single.proofs.host.Goals as goal
 
+pub returns-in_default : goal.returns-in_default
+returns-in_default c = other_gives _ _ _ _ _ c.in_default.ensures.cases c.refused.ensures
+
 pub step-requires : goal.step-requires
-step-requires c = zero_admits _ _ _ _ _ c.admission-answer.ensures c.number.ensures c.if-number-eq0.true
+step-requires c = admitted _ _ _ (sym c.in-Done.ensures)
 
-pub returns-then-number-eq0 : goal.returns-then-number-eq0
-returns-then-number-eq0 c = rw (lent_ready _ _ _ _ (zero_admits _ _ _ _ _ c.admission-answer.ensures c.number.ensures c.if-number-eq0.true)) c.step.ensures
+pub returns-in-Done : goal.returns-in-Done
+returns-in-Done c = rw (← c.in-Some.ensures.cases.same) (ready_gives _ _ _ _ _ _ _ _ c.in-Done.ensures c.step.ensures)
 
-pub returns : goal.returns
-returns c = away_gives _ _ _ _ _ _ (low_bytes _ c.slice_known-1.given) c.admission-answer.ensures (other_refuses _ _ c.number.ensures c.if-number-eq0.false) c.refused.ensures
+pub returns-in_default-admission : goal.returns-in_default-admission
+returns-in_default-admission c = rw (← c.in-Some.ensures.cases.same) (away_gives _ _ _ _ _ _ (low_bytes _ (λ i. omega (arith, c.type_inv.state i))) c.admission.ensures (other_refuses _ c.in_default-admission.not-Done) c.refused-in_default-admission.ensures)

@@ -13,5 +13,5 @@ loop-words-preserved c = handing_more c.loop-words.invariant (sym c.hands_out.en
 pub returns-else-hands_out : goal.returns-else-hands_out
 returns-else-hands_out c = handing_refused c.loop-words.invariant (sym c.hands_out.ensures ∙ c.if-hands_out.false)
 
-pub returns : goal.returns
-returns c = handing_done c.loop-words.invariant c.loop-words-test.false
+pub returns-after-loop-words : goal.returns-after-loop-words
+returns-after-loop-words c = handing_done c.loop-words.invariant c.loop-words-test.false

@@ -9,8 +9,8 @@ loop-words-init c = taking_none _ _ _ _ _
 pub loop-words-preserved : goal.loop-words-preserved
 loop-words-preserved c = taking_more c.loop-words.invariant (search rules) _ c.place_of-place.ensures (search rules) _ (search rules) (search rules) (search rules) _ c.copy.ensures _ c.write_to-hot.ensures.0 _ c.write_to-hot.ensures.1 (search rules)
 
-pub returns-else-place-end : goal.returns-else-place-end
-returns-else-place-end c = taking_refused c.loop-words.invariant _ c.place_of-place.ensures (search rules) _ c.takes_to-end.ensures.0 c.if-place-end.false
+pub returns-then-place-end : goal.returns-then-place-end
+returns-then-place-end c = taking_refused c.loop-words.invariant _ c.place_of-place.ensures (search rules) _ c.takes_to-end.ensures.0 c.if-place-end.true
 
 pub returns : goal.returns
 returns c = taking_done c.loop-words.invariant c.loop-words-test.false

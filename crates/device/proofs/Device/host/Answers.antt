@@ -4,4 +4,4 @@ use mathlib.Core.Path.{sym, ◌∙◌}
 use Rattle.device.proofs.Device.host.Goals as goal
 
 pub step-requires : goal.step-requires
-step-requires c = shaped_memory _ _ (sym c.shaped.ensures ∙ c.if-shaped.true) (rw (← c.capacity.ensures) c.if-sectors-capacity.true)
+step-requires c = shaped_memory _ _ (sym c.shaped.ensures ∙ c.if-not-shaped.false) (rw (← c.capacity.ensures) c.if-sectors-capacity.false)
