@@ -24,10 +24,10 @@ fn counted(passed: usize, wanted: usize) -> Reply
     if passed == 0 && wanted > 0 {
         return lent::refused(Answer::NoTransfer);
     }
-    lent::answered(0, passed as u32)
+    lent::done(passed as u32)
 }
 
-// Words are read from a device in shape over its memory.
+// Words are read from a device in shape over its memory: Admitted is a clause on three lent parts, which no type holds (docs/DECISIONS.md, 66).
 pub fn read_admitted(
     state: &mut State,
     buffer: &mut [u8; 512],
@@ -48,11 +48,8 @@ pub fn read_admitted(
 pub fn read_words(state: &mut [u8], buffer: &mut [u8; 512], sectors: &[u8], out: &mut [u8]) -> Reply
     ensures { ReadsLent (read_lent state.old buffer.old sectors.now (length out.old / 2)) (words_lent state.old buffer.old sectors.now (length out.old / 2)) out.old result state.new buffer.new sectors.now out.new }
 {
-    let Some(state) = state.as_mut_array() else {
-        return lent::refused(Answer::OutOfShape);
-    };
     match lent::admission(state, sectors) {
-        Answer::Done => read_admitted(state, buffer, sectors, out),
+        Answer::Done => read_admitted(state.as_mut_array().unwrap(), buffer, sectors, out),
         answer => lent::refused(answer),
     }
 }
@@ -128,11 +125,8 @@ pub fn write_words(
 ) -> Reply
     ensures { GivesBack (write_lent state.old buffer.old sectors.old (words_in bytes.now)) result state.new buffer.new sectors.new }
 {
-    let Some(state) = state.as_mut_array() else {
-        return lent::refused(Answer::OutOfShape);
-    };
     match lent::admission(state, sectors) {
-        Answer::Done => write_admitted(state, buffer, sectors, bytes),
+        Answer::Done => write_admitted(state.as_mut_array().unwrap(), buffer, sectors, bytes),
         answer => lent::refused(answer),
     }
 }

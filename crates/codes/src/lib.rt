@@ -3,7 +3,7 @@
 
 ghost use Rattle.std.specs.Prelude.{◌≡◌};
 ghost use Rattle.codes.specs.Commands.{decode_of};
-ghost use Rattle.codes.specs.MayRun.{not_locked, not_frozen, runs_in, may_run_of, barred_of};
+ghost use Rattle.codes.specs.MayRun.{runs_in, may_run_of, barred_of};
 
 use lock::{Lock, Security};
 
@@ -55,18 +55,6 @@ pub fn decode(code: u8) -> Command
     }
 }
 
-fn not_locked(lock: Lock) -> bool
-    ensures { result ≡ not_locked lock }
-{
-    matches!(lock, Lock::Open | Lock::Frozen)
-}
-
-fn not_frozen(lock: Lock) -> bool
-    ensures { result ≡ not_frozen lock }
-{
-    matches!(lock, Lock::Open | Lock::Locked)
-}
-
 impl Command {
     // Whether the command runs in this lock state, or aborts at once.
     fn runs_in(self, lock: Lock) -> bool
@@ -77,8 +65,8 @@ impl Command {
             Command::ReadSectors
             | Command::WriteSectors
             | Command::VerifySectors
-            | Command::SecurityFreezeLock => not_locked(lock),
-            Command::SecurityUnlock | Command::SecurityEraseUnit => not_frozen(lock),
+            | Command::SecurityFreezeLock => !lock.locked(),
+            Command::SecurityUnlock | Command::SecurityEraseUnit => !lock.frozen(),
             Command::SecuritySetPassword | Command::SecurityDisablePassword => lock.open(),
             _ => true,
         }

@@ -86,7 +86,7 @@ fn identify_device(front: Front, buffer: &mut [u8; 512]) -> Hot
     front.hot.raised(Transfer::ReadingBuffer(0))
 }
 
-// READ BUFFER (E4h).
+// READ BUFFER (E4h). Each command has its function, however short, since it has its definition.
 #[tactic(auto, unfolding(crate::specs::Others::read_buffer_of))]
 fn read_buffer(hot: Hot) -> Hot
     ensures { (s : Settled) → (b : List ℕ) → face_with result s b ≡ read_buffer_of (face_with hot s b) }

@@ -5,7 +5,8 @@ use Rattle.lock.specs.declared.Secrets.{Secrets}
 use Rattle.face.specs.Face.{with_hot, with_buffer}
 use Rattle.face.specs.Reads.{number_of, value_of}
 use Rattle.face.specs.declared.Face.{Face}
-use Rattle.face.specs.declared.Seen.{Seen}
+use Rattle.face.specs.declared.Hot.{Hot}
+use Rattle.face.specs.declared.Shows.{Shows}
 use Rattle.face.specs.declared.Answer.{Answer}
 use Rattle.face.specs.declared.Answer.TheVariants.{Done}
 use Rattle.face.specs.declared.Action.{Action}
@@ -50,5 +51,5 @@ unfoldable pub alone_of : Device → List ℕ → Action → Step
 alone_of d m a = pick (ignored_of d.face.hot a) (shown d m Done 0) (acted_of d m a)
 
 -- what the fast path settled, put in place
-abbrev pub quick_outcome : Device → List ℕ → Seen → Outcome
-quick_outcome d b s = outcome (device_of (with_hot (with_buffer d.face b) s.hot) d.secrets) s.answer s.value
+abbrev pub quick_outcome : Device → List ℕ → Shows Hot → Outcome
+quick_outcome d b s = outcome (device_of (with_hot (with_buffer d.face b) s.left) d.secrets) s.answer s.value

@@ -8,7 +8,7 @@ ghost use Rattle.device.specs.Alone.{outcome, quick_outcome, told_of, acted_of, 
 ghost use Rattle.device.specs.Host.{alone_fits, parts_shaped, shaped_of, step_of};
 
 use effects::Acted;
-use face::{Action, Answer, Face, Front, Hot, Seen};
+use face::{Action, Answer, Face, Front, Hot, Shows};
 use geometry::Geometry;
 use lock::Secrets;
 use settled::Identity;
@@ -134,10 +134,10 @@ impl Device {
     }
 
     // What the fast path settled, put in place.
-    fn settles(self, buffer: [u8; 512], seen: Seen) -> Outcome
+    fn settles(self, buffer: [u8; 512], seen: Shows<Hot>) -> Outcome
         ensures { result ≡ quick_outcome self buffer seen }
     {
-        let face = self.face.with_buffer(buffer).with_hot(seen.hot);
+        let face = self.face.with_buffer(buffer).with_hot(seen.left);
         Device { face, ..self }.shows(seen.answer, seen.value)
     }
 
@@ -167,6 +167,7 @@ impl Device {
         self.step(action, sectors)
     }
 
+    // The host's seven calls: each is `host` with its action.
     pub fn read_register(self, n: u8, sectors: &mut [u8]) -> Outcome
         ensures { (result ≡ (step_of self sectors.old (Action.ReadRegister n)).outcome) × (sectors.new ≡ (step_of self sectors.old (Action.ReadRegister n)).sectors) }
     {

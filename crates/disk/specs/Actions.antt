@@ -16,18 +16,18 @@ use Rattle.face.specs.declared.Face.{Face}
 use Rattle.transfers.specs.Words.{told, write_buffer_word}
 use Rattle.reading.specs.Words.{read_word_of}
 use Rattle.writing.specs.Words.{write_run_of, write_run_sectors}
-use Rattle.transfers.specs.declared.Told.{Told}
+use Rattle.face.specs.declared.Shows.{Shows}
 use Rattle.commands.specs.Gate.{command_of}
 use Rattle.effects.specs.Effects.{acted, Effect, effect, seen_acted}
 use Rattle.password.specs.Passwords.{password_word, password_word_sectors}
 use Rattle.effects.specs.declared.Acted.{Acted}
 
 -- an action on the face
-abbrev pub told_acted : Secrets → Told → Acted
-told_acted x t = acted t.face x t.answer t.value
+abbrev pub told_acted : Secrets → Shows Face → Acted
+told_acted x t = acted t.left x t.answer t.value
 
 -- registers 1 to 6 are stored, 7 is the Command register and 8 Device Control; "register 0 or above 8" is answer 1
-unfoldable pub write_register_of : Face → List ℕ → ℕ → ℕ → Told
+unfoldable pub write_register_of : Face → List ℕ → ℕ → ℕ → Shows Face
 write_register_of f m n v =
     pick (within 1 6 n) (told (with_hot f (put_register f.hot n v)) Done 0)
     (pick (eqb n 7) (told (command_of f m v) Done 0)

@@ -14,9 +14,8 @@ ghost use Rattle.effects.specs.Effects.{acted, seen_acted};
 ghost use Rattle.disk.specs.Actions.{told_acted, write_register_of, write_word_of, act_of};
 
 use effects::Acted;
-use face::{Action, Answer, Face, Transfer};
+use face::{Action, Answer, Face, Shows, Transfer};
 use lock::Secrets;
-use transfers::Told;
 
 // A data word with no transfer that way.
 fn refused(face: Face, secrets: Secrets) -> Acted
@@ -51,10 +50,10 @@ fn register_put(face: Face, n: u8, v: u8) -> Face
 }
 
 // A write that is done leaves this face.
-fn written(face: Face) -> Told
+fn written(face: Face) -> Shows<Face>
     ensures { result ≡ told face Answer.Done 0 }
 {
-    transfers::tells(face, Answer::Done, 0)
+    face::tells(face, Answer::Done, 0)
 }
 
 // The Command register is written.
@@ -86,21 +85,17 @@ pub fn powered_on(face: Face) -> Face
 }
 
 // A register is written.
-#[tactic(auto, unfolding(crate::specs::Actions::write_register_of))]
-fn write_register(face: Face, n: u8, v: u8, sectors: &[u8]) -> Told
+#[tactic(auto, unfolding(crate::specs::Actions::write_register_of, base::specs::Choice::within))]
+fn write_register(face: Face, n: u8, v: u8, sectors: &[u8]) -> Shows<Face>
     requires { Memory face.settled.geometry face.settled.translation sectors.now }
     ensures { result ≡ write_register_of face sectors.now n v }
 {
-    if base::within(1, 6, n as u16) {
-        return written(register_put(face, n, v));
+    match n {
+        1..=6 => written(register_put(face, n, v)),
+        7 => written(command_written(face, v, sectors)),
+        8 => written(control_written(face, v)),
+        _ => face::tells(face, Answer::NoRegister, 0),
     }
-    if n == 7 {
-        return written(command_written(face, v, sectors));
-    }
-    if n == 8 {
-        return written(control_written(face, v));
-    }
-    transfers::tells(face, Answer::NoRegister, 0)
 }
 
 // A register is read.
@@ -108,7 +103,7 @@ fn register_read(face: Face, secrets: Secrets, n: u8) -> Acted
     ensures { result ≡ seen_acted face secrets (read_register face.hot n) }
 {
     let seen = face.hot.read_register(n);
-    effects::acts(face.with_hot(seen.hot), secrets, seen.answer, seen.value)
+    effects::acts(face.with_hot(seen.left), secrets, seen.answer, seen.value)
 }
 
 // The interrupt line is read.
@@ -119,10 +114,10 @@ fn line_read(face: Face, secrets: Secrets) -> Acted
 }
 
 // An action that leaves the passwords.
-fn told_acts(secrets: Secrets, told: Told) -> Acted
+fn told_acts(secrets: Secrets, told: Shows<Face>) -> Acted
     ensures { result ≡ told_acted secrets told }
 {
-    effects::acts(told.face, secrets, told.answer, told.value)
+    effects::acts(told.left, secrets, told.answer, told.value)
 }
 
 // A host action over the disk's own memory.

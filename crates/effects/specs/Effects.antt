@@ -2,7 +2,8 @@
 use Rattle.std.specs.Prelude.{ℕ, List}
 use Rattle.lock.specs.declared.Secrets.{Secrets}
 use Rattle.face.specs.Face.{with_hot}
-use Rattle.face.specs.declared.Seen.{Seen}
+use Rattle.face.specs.declared.Hot.{Hot}
+use Rattle.face.specs.declared.Shows.{Shows}
 use Rattle.face.specs.declared.Answer.{Answer}
 use Rattle.face.specs.declared.Face.{Face}
 use Rattle.effects.specs.declared.Acted.{Acted}
@@ -21,5 +22,5 @@ abbrev pub effect : Acted → List ℕ → Effect
 effect a m = record { acted = a; sectors = m }
 
 -- an action on the hot part
-abbrev pub seen_acted : Face → Secrets → Seen → Acted
-seen_acted f x s = acted (with_hot f s.hot) x s.answer s.value
+abbrev pub seen_acted : Face → Secrets → Shows Hot → Acted
+seen_acted f x s = acted (with_hot f s.left) x s.answer s.value

@@ -7,7 +7,7 @@ ghost use Rattle.effects.specs.Effects.{acted};
 use face::{Answer, Face};
 use lock::Secrets;
 
-// What an action leaves of a disk, and what it shows: as in face::Seen, any answer beside any value.
+// What an action leaves of a disk, and what it shows: as in face::Shows, any answer beside any value.
 #[derive(Clone, Copy)]
 pub struct Acted {
     pub face: Face,

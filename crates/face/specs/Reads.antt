@@ -5,7 +5,7 @@ use Rattle.face.specs.Face.{with_raised, with_signals}
 use Rattle.face.specs.declared.Transfer.{Transfer}
 use Rattle.face.specs.declared.Transfer.TheVariants.{Idle, Reading, Writing, ReadingBuffer, WritingBuffer, TakingPassword}
 use Rattle.face.specs.declared.Hot.{Hot}
-use Rattle.face.specs.declared.Seen.{Seen}
+use Rattle.face.specs.declared.Shows.{Shows}
 use Rattle.face.specs.declared.Answer.{Answer}
 use Rattle.face.specs.declared.Answer.TheVariants.{Done, NoRegister, OutOfShape, WrongLength, NoTransfer, SetupRefused}
 
@@ -40,16 +40,20 @@ is_idle (TakingPassword b) = false
 unfoldable pub status_of : Hot → ℕ
 status_of h = pick h.signals.held 0x80 (pick (is_idle h.transfer) (pick h.signals.failed 0x51 0x50) 0x58)
 
+-- what an action leaves, and the answer and value that it shows
+abbrev pub showing : {A : Type 0} → A → Answer → ℕ → Shows A
+showing x a v = record { left = x; answer = a; value = v }
+
 -- what an action on the hot part shows
-abbrev pub seen : Hot → Answer → ℕ → Seen
-seen h a v = record { hot = h; answer = a; value = v }
+abbrev pub seen : Hot → Answer → ℕ → Shows Hot
+seen h a v = record { left = h; answer = a; value = v }
 
 -- "Reading 7 clears it"
 abbrev pub quiet_of : Hot → Hot
 quiet_of h = with_signals h (with_raised h.signals false)
 
 -- "A read of 1 to 6 always gives the value held"; 7 is Status and 8 Alternate Status; "register 0 or above 8" is answer 1
-unfoldable pub read_register : Hot → ℕ → Seen
+unfoldable pub read_register : Hot → ℕ → Shows Hot
 read_register h n =
     pick (eqb n 1) (seen h Done h.regs.error)
     (pick (eqb n 2) (seen h Done h.regs.count)

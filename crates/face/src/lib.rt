@@ -4,7 +4,7 @@
 ghost use Rattle.std.specs.Prelude.{◌≡◌, ◌<◌};
 ghost use Rattle.face.specs.Registers.{start_registers};
 ghost use Rattle.face.specs.Face.{start_hot, with_regs, with_transfer, face_with, with_hot, with_settled, with_buffer, next_word, next_password_word};
-ghost use Rattle.face.specs.Reads.{number_of, value_of, is_idle, status_of, seen, quiet_of, read_register, line_of};
+ghost use Rattle.face.specs.Reads.{number_of, value_of, is_idle, status_of, showing, quiet_of, read_register, line_of};
 ghost use Rattle.face.specs.Writes.{busy_of, store_register, put_register};
 ghost use Rattle.face.specs.Ends.{cleared_of, raised_of, finish_of, fail_of, abort_of, ended_at};
 ghost use Rattle.face.specs.Setup.{zero_face};
@@ -104,13 +104,23 @@ pub enum Answer {
     SetupRefused = 6,
 }
 
-// What an action on the hot part alone shows. An answer stands beside a value here, in Told and in Acted: `shows`, `tells`, `acts` and
-// `value_of` take any of either, which a Result could not hold (docs/DECISIONS.md, 62).
+// What an action leaves, the hot part alone or the whole face, and what it shows. An answer stands beside a value, as in effects::Acted:
+// `tells`, `acts` and `value_of` take any of either, which a Result could not hold (docs/DECISIONS.md, 62).
 #[derive(Clone, Copy)]
-pub struct Seen {
-    pub hot: Hot,
+pub struct Shows<T> {
+    pub left: T,
     pub answer: Answer,
     pub value: u16,
+}
+
+pub fn tells<T>(left: T, answer: Answer, value: u16) -> Shows<T>
+    ensures { result ≡ showing left answer value }
+{
+    Shows {
+        left,
+        answer,
+        value,
+    }
 }
 
 impl Answer {
@@ -181,24 +191,13 @@ impl Hot {
         ensures { result ≡ status_of self }
     {
         if self.signals.held {
-            return 0x80;
-        }
-        if self.idle() {
-            if self.signals.failed {
-                return 0x51;
-            }
-            return 0x50;
-        }
-        0x58
-    }
-
-    pub fn shows(self, answer: Answer, value: u16) -> Seen
-        ensures { result ≡ seen self answer value }
-    {
-        Seen {
-            hot: self,
-            answer,
-            value,
+            0x80
+        } else if !self.idle() {
+            0x58
+        } else if self.signals.failed {
+            0x51
+        } else {
+            0x50
         }
     }
 
@@ -211,19 +210,19 @@ impl Hot {
 
     // A register is read, but for DEV.
     #[tactic(auto, unfolding(crate::specs::Reads::read_register))]
-    pub fn read_register(self, n: u8) -> Seen
+    pub fn read_register(self, n: u8) -> Shows<Hot>
         ensures { result ≡ read_register self n }
     {
         match n {
-            1 => self.shows(Answer::Done, self.regs.error as u16),
-            2 => self.shows(Answer::Done, self.regs.count as u16),
-            3 => self.shows(Answer::Done, self.regs.at.sector as u16),
-            4 => self.shows(Answer::Done, self.regs.at.low as u16),
-            5 => self.shows(Answer::Done, self.regs.at.high as u16),
-            6 => self.shows(Answer::Done, self.regs.at.head as u16),
-            7 => self.quiet().shows(Answer::Done, self.status() as u16),
-            8 => self.shows(Answer::Done, self.status() as u16),
-            _ => self.shows(Answer::NoRegister, 0),
+            1 => tells(self, Answer::Done, self.regs.error as u16),
+            2 => tells(self, Answer::Done, self.regs.count as u16),
+            3 => tells(self, Answer::Done, self.regs.at.sector as u16),
+            4 => tells(self, Answer::Done, self.regs.at.low as u16),
+            5 => tells(self, Answer::Done, self.regs.at.high as u16),
+            6 => tells(self, Answer::Done, self.regs.at.head as u16),
+            7 => tells(self.quiet(), Answer::Done, self.status() as u16),
+            8 => tells(self, Answer::Done, self.status() as u16),
+            _ => tells(self, Answer::NoRegister, 0),
         }
     }
 
@@ -366,6 +365,7 @@ impl Front {
     }
 }
 
+// A `with_` is one field's update; a function over any field would be the update itself.
 impl Face {
     // The face but for its buffer.
     pub fn front(self) -> Front

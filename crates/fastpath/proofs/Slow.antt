@@ -7,7 +7,7 @@ use lib.Dec.{ltb}
 use Rattle.std.specs.Prelude.{Some, None}
 use Rattle.base.specs.Choice.{pick}
 use Rattle.face.specs.declared.Hot.{Hot}
-use Rattle.face.specs.declared.Seen.{Seen}
+use Rattle.face.specs.declared.Shows.{Shows}
 use Rattle.face.specs.declared.Transfer.{Transfer}
 use Rattle.face.specs.declared.Transfer.TheVariants.{Idle, Reading, Writing, ReadingBuffer, WritingBuffer, TakingPassword}
 use Rattle.face.specs.declared.Action.{Action}
@@ -16,7 +16,7 @@ use Rattle.fastpath.specs.Quick.{quick_write_of, quick_write_buffer, quick_of, q
 use Rattle.fastpath.specs.Dev.{ignored_of, quick_alone, quick_alone_buffer}
 
 -- a choice that came out None did not settle
-slow_false : (b : Bool) (s : Seen) → pick b (Some s) None ≡ None → b ≡ false
+slow_false : (b : Bool) (s : Shows Hot) → pick b (Some s) None ≡ None → b ≡ false
 slow_false true s e = cc
 slow_false false s e = refl
 

@@ -1,7 +1,7 @@
 -- The fast path of a disk alone on its cable: the rules for DEV set (document 01, "Registers").
 use Rattle.std.specs.Prelude.{ℕ, ◌/◌, ◌%◌, Bool, true, false, not, List, eqb, Option, None}
 use Rattle.base.specs.Choice.{pick}
-use Rattle.face.specs.declared.Seen.{Seen}
+use Rattle.face.specs.declared.Shows.{Shows}
 use Rattle.face.specs.declared.Hot.{Hot}
 use Rattle.face.specs.declared.Action.{Action}
 use Rattle.face.specs.declared.Action.TheVariants.{ReadRegister, WriteRegister, ReadWord, WriteWord, HardwareReset, PowerOn, Line}
@@ -26,7 +26,7 @@ unfoldable pub ignored_of : Hot → Action → Bool
 ignored_of h a = pick (unanswered_of a) (dev_set h) false
 
 -- the fast path
-unfoldable pub quick_alone : Hot → List ℕ → Action → Option Seen
+unfoldable pub quick_alone : Hot → List ℕ → Action → Option (Shows Hot)
 quick_alone h b a = pick (ignored_of h a) None (quick_of h b a)
 
 -- and what it leaves in the buffer

@@ -3,7 +3,7 @@
 use Rattle.std.specs.Prelude.{ℕ, ◌+◌, List, ltb, Option, Some, None}
 use Rattle.base.specs.Choice.{pick, within}
 use Rattle.block.specs.Words.{word_at, word_put}
-use Rattle.face.specs.declared.Seen.{Seen}
+use Rattle.face.specs.declared.Shows.{Shows}
 use Rattle.face.specs.Face.{with_transfer, next_word, next_password_word}
 use Rattle.face.specs.Reads.{seen, read_register, line_of}
 use Rattle.face.specs.Writes.{put_register}
@@ -15,11 +15,11 @@ use Rattle.face.specs.declared.Action.TheVariants.{ReadRegister, WriteRegister, 
 use Rattle.face.specs.declared.Answer.TheVariants.{Done}
 
 -- the transfer goes on to its next word
-abbrev pub goes_on : Hot → Transfer → ℕ → Option Seen
+abbrev pub goes_on : Hot → Transfer → ℕ → Option (Shows Hot)
 goes_on h t v = Some (seen (with_transfer h t) Done v)
 
 -- a word is read that is not its block's last
-unfoldable pub quick_read_of : Hot → List ℕ → Transfer → Option Seen
+unfoldable pub quick_read_of : Hot → List ℕ → Transfer → Option (Shows Hot)
 quick_read_of h b Idle = None
 quick_read_of h b (Reading r) = pick (ltb r.word 255) (goes_on h (Reading (next_word r)) (word_at b r.word)) None
 quick_read_of h b (Writing r) = None
@@ -28,7 +28,7 @@ quick_read_of h b (WritingBuffer n) = None
 quick_read_of h b (TakingPassword p) = None
 
 -- a word is written that is not its block's last
-unfoldable pub quick_write_of : Hot → Transfer → Option Seen
+unfoldable pub quick_write_of : Hot → Transfer → Option (Shows Hot)
 quick_write_of h Idle = None
 quick_write_of h (Reading r) = None
 quick_write_of h (Writing r) = pick (ltb r.word 255) (goes_on h (Writing (next_word r)) 0) None
@@ -46,11 +46,11 @@ quick_write_buffer b w (WritingBuffer n) = pick (ltb n 255) (word_put b n w) b
 quick_write_buffer b w (TakingPassword p) = pick (ltb p.word 255) (word_put b p.word w) b
 
 -- a write to one of registers 1 to 6
-unfoldable pub quick_put_of : Hot → ℕ → ℕ → Option Seen
+unfoldable pub quick_put_of : Hot → ℕ → ℕ → Option (Shows Hot)
 quick_put_of h n v = pick (within 1 6 n) (Some (seen (put_register h n v) Done 0)) None
 
 -- what the hot part and the buffer settle
-unfoldable pub quick_of : Hot → List ℕ → Action → Option Seen
+unfoldable pub quick_of : Hot → List ℕ → Action → Option (Shows Hot)
 quick_of h b (ReadRegister n) = Some (read_register h n)
 quick_of h b (WriteRegister n v) = quick_put_of h n v
 quick_of h b ReadWord = quick_read_of h b h.transfer

@@ -5,16 +5,16 @@ ghost use Rattle.std.specs.Prelude.{◌≡◌};
 ghost use Rattle.fastpath.specs.Quick.{goes_on, quick_read_of, quick_write_of, quick_write_buffer, quick_put_of, quick_of, quick_buffer};
 ghost use Rattle.fastpath.specs.Dev.{dev_set, unanswered_of, ignored_of, quick_alone, quick_alone_buffer};
 
-use face::{Action, Answer, Hot, Seen, Transfer};
+use face::{Action, Answer, Hot, Shows, Transfer};
 
-fn goes_on(hot: Hot, transfer: Transfer, value: u16) -> Option<Seen>
+fn goes_on(hot: Hot, transfer: Transfer, value: u16) -> Option<Shows<Hot>>
     ensures { result ≡ goes_on hot transfer value }
 {
-    Some(hot.with_transfer(transfer).shows(Answer::Done, value))
+    Some(face::tells(hot.with_transfer(transfer), Answer::Done, value))
 }
 
 #[tactic(auto, unfolding(crate::specs::Quick::quick_read_of))]
-fn quick_read(hot: Hot, buffer: &[u8; 512]) -> Option<Seen>
+fn quick_read(hot: Hot, buffer: &[u8; 512]) -> Option<Shows<Hot>>
     ensures { result ≡ quick_read_of hot buffer.now hot.transfer }
 {
     let (word, next) = match hot.transfer {
@@ -26,7 +26,7 @@ fn quick_read(hot: Hot, buffer: &[u8; 512]) -> Option<Seen>
 }
 
 #[tactic(auto, unfolding(crate::specs::Quick::quick_write_of, crate::specs::Quick::quick_write_buffer))]
-fn quick_write(hot: Hot, buffer: &mut [u8; 512], w: u16) -> Option<Seen>
+fn quick_write(hot: Hot, buffer: &mut [u8; 512], w: u16) -> Option<Shows<Hot>>
     ensures { (result ≡ quick_write_of hot hot.transfer) × (buffer.new ≡ quick_write_buffer buffer.old w hot.transfer) }
 {
     let (word, next) = match hot.transfer {
@@ -42,19 +42,19 @@ fn quick_write(hot: Hot, buffer: &mut [u8; 512], w: u16) -> Option<Seen>
     goes_on(hot, next, 0)
 }
 
-#[tactic(auto, unfolding(crate::specs::Quick::quick_put_of))]
-fn quick_put(hot: Hot, n: u8, v: u8) -> Option<Seen>
+#[tactic(auto, unfolding(crate::specs::Quick::quick_put_of, base::specs::Choice::within))]
+fn quick_put(hot: Hot, n: u8, v: u8) -> Option<Shows<Hot>>
     ensures { result ≡ quick_put_of hot n v }
 {
-    if base::within(1, 6, n as u16) {
-        return Some(hot.put_register(n, v).shows(Answer::Done, 0));
+    match n {
+        1..=6 => Some(face::tells(hot.put_register(n, v), Answer::Done, 0)),
+        _ => None,
     }
-    None
 }
 
 // An action that the hot part and the buffer settle, DEV not looked at.
 #[tactic(auto, unfolding(crate::specs::Quick::quick_of, crate::specs::Quick::quick_buffer))]
-fn quick_hot(hot: Hot, buffer: &mut [u8; 512], action: Action) -> Option<Seen>
+fn quick_hot(hot: Hot, buffer: &mut [u8; 512], action: Action) -> Option<Shows<Hot>>
     ensures { (result ≡ quick_of hot buffer.old action) × (buffer.new ≡ quick_buffer hot buffer.old action) }
 {
     match action {
@@ -62,7 +62,7 @@ fn quick_hot(hot: Hot, buffer: &mut [u8; 512], action: Action) -> Option<Seen>
         Action::WriteRegister(n, v) => quick_put(hot, n, v),
         Action::ReadWord => quick_read(hot, buffer),
         Action::WriteWord(w) => quick_write(hot, buffer, w),
-        Action::Line => Some(hot.shows(Answer::Done, hot.line())),
+        Action::Line => Some(face::tells(hot, Answer::Done, hot.line())),
         Action::HardwareReset | Action::PowerOn => None,
     }
 }
@@ -80,7 +80,7 @@ fn unanswered(action: Action) -> bool
     ensures { result ≡ unanswered_of action }
 {
     match action {
-        Action::ReadRegister(n) => n == 7 || n == 8,
+        Action::ReadRegister(n) => matches!(n, 7 | 8),
         Action::WriteRegister(7, v) => v != 0x90,
         _ => false,
     }
@@ -96,7 +96,7 @@ pub fn ignored(hot: Hot, action: Action) -> bool
 
 // The fast path: an action that the hot part and the buffer settle.
 #[tactic(auto, unfolding(crate::specs::Dev::quick_alone, crate::specs::Dev::quick_alone_buffer))]
-pub fn quick(hot: Hot, buffer: &mut [u8; 512], action: Action) -> Option<Seen>
+pub fn quick(hot: Hot, buffer: &mut [u8; 512], action: Action) -> Option<Shows<Hot>>
     ensures { (result ≡ quick_alone hot buffer.old action) × (buffer.new ≡ quick_alone_buffer hot buffer.old action) }
 {
     if ignored(hot, action) {

@@ -29,13 +29,13 @@ impl Geometry {
     pub const MAX_SECTORS: u8 = 63;
 
     // Whether each count is from 1 to its ceiling.
-    #[tactic(auto, unfolding(crate::specs::Geometry::geometry_fits, crate::specs::Geometry::max_cylinders, crate::specs::Geometry::max_heads, crate::specs::Geometry::max_sectors))]
+    #[tactic(auto, unfolding(crate::specs::Geometry::geometry_fits, crate::specs::Geometry::max_cylinders, crate::specs::Geometry::max_heads, crate::specs::Geometry::max_sectors, base::specs::Choice::within))]
     pub fn fits(self) -> bool
         ensures { result ≡ geometry_fits self }
     {
-        base::within(1, Self::MAX_CYLINDERS, self.cylinders)
-            && base::within(1, Self::MAX_HEADS as u16, self.heads as u16)
-            && base::within(1, Self::MAX_SECTORS as u16, self.sectors as u16)
+        matches!(self.cylinders, 1..=Self::MAX_CYLINDERS)
+            && matches!(self.heads, 1..=Self::MAX_HEADS)
+            && matches!(self.sectors, 1..=Self::MAX_SECTORS)
     }
 
     // The geometry of three counts, where they are within the limits.
@@ -103,11 +103,11 @@ impl Geometry {
 
 impl Translation {
     // Whether 91h could have made this translation on a disk of that geometry; the factory's is one such.
-    #[tactic(auto, unfolding(crate::specs::Translation::translation_allowed))]
+    #[tactic(auto, unfolding(crate::specs::Translation::translation_allowed, base::specs::Choice::within))]
     pub fn allowed(self, geometry: Geometry) -> bool
         ensures { result ≡ translation_allowed geometry self }
     {
-        base::within(1, 16, self.heads as u16)
+        matches!(self.heads, 1..=16)
             && geometry
                 .initialize(self.sectors, self.heads - 1)
                 .is_some_and(|made| made.cylinders == self.cylinders)

@@ -9,7 +9,7 @@ use Rattle.std.specs.Prelude.{Option, Some, None}
 use Rattle.base.specs.Choice.{pick}
 use Rattle.base.proofs.Tests.{pick_both}
 use Rattle.block.specs.Words.{word_at, word_put}
-use Rattle.face.specs.declared.Seen.{Seen}
+use Rattle.face.specs.declared.Shows.{Shows}
 use Rattle.face.specs.Reads.{is_idle, seen, status_of, line_of, read_register}
 use Rattle.face.specs.declared.Hot.{Hot}
 use Rattle.face.specs.declared.Transfer.{Transfer}
@@ -36,12 +36,12 @@ hot_same h = go h.transfer
     go (TakingPassword b) = refl
 
 -- what a glance showed, put in place; else what the fast path gives
-abbrev glance_then : Hot → Transfer → Option Shown → Option Seen → Option Seen
+abbrev glance_then : Hot → Transfer → Option Shown → Option (Shows Hot) → Option (Shows Hot)
 glance_then h t (Some s) quick = Some (seen (hot_with h t s.word s.raised) Done s.value)
 glance_then h t None quick = quick
 
 -- what is shown with None in the fast path's place holds with the fast path itself: a glance that shows needs neither
-quick_again : (q : Option Seen) (h : Hot) (t : Transfer) (g : Option Shown) → q ≡ glance_then h t g None → q ≡ glance_then h t g q
+quick_again : (q : Option (Shows Hot)) (h : Hot) (t : Transfer) (g : Option Shown) → q ≡ glance_then h t g None → q ≡ glance_then h t g q
 quick_again q h t (Some s) e = e
 quick_again q h t None e = refl
 

@@ -17,6 +17,8 @@ pub struct Shown {
     pub raised: bool,
 }
 
+// Place and interrupt are two numbers to each function here, as to the definitions: `loops::glide` holds them in registers.
+
 // The place of the transfer's next word.
 pub fn place_of(hot: Hot) -> u8
     ensures { result ≡ place_of hot.transfer }

@@ -150,7 +150,7 @@ password_fewer f x b w q =
 refused_not : NoTransfer ≡ Done → ⊥
 refused_not e = cc
 
-read_word_fewer : (f : Face) (m : List ℕ) (t : Transfer) → Bytes t → (read_word_as f m t).answer ≡ Done → Fewer (words_left t) (read_word_as f m t).face
+read_word_fewer : (f : Face) (m : List ℕ) (t : Transfer) → Bytes t → (read_word_as f m t).answer ≡ Done → Fewer (words_left t) (read_word_as f m t).left
 read_word_fewer f m Idle b e = absurd (refused_not e)
 read_word_fewer f m (Reading r) b e = read_run_fewer f m r b.0 b.1
 read_word_fewer f m (Writing r) b e = absurd (refused_not e)

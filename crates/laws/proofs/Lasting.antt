@@ -40,7 +40,7 @@ use Rattle.resets.specs.Control.{srst_of, control_of}
 use Rattle.resets.specs.Resets.{drop_purpose, drop_as, dropped_of, powered_on_face}
 use Rattle.transfers.specs.Sectors.{run_at, ended_well, located, after_of, not_found_of}
 use Rattle.transfers.specs.Words.{read_buffer_word, word_in, write_buffer_word}
-use Rattle.transfers.specs.declared.Told.{Told}
+use Rattle.face.specs.declared.Shows.{Shows}
 use Rattle.reading.specs.Sectors.{read_as, read_at, read_sectors_of, verify_as, verify_last, verify_from, verify_sectors_of}
 use Rattle.reading.specs.Words.{read_next_of, read_run_of, read_word_as, read_word_of}
 use Rattle.writing.specs.Sectors.{write_as, write_at, write_sectors_of}
@@ -144,17 +144,17 @@ unfolding control_of
 control_lasts {m} {P} c f v p =
     pick_both P (srst_of v) _ _ (c.zeroed _ (c.unprepared _ (c.factory (with_hot f _) (c.hot f _ p)))) (c.hot f _ p)
 
-pub write_register_lasts : {m : List ℕ} {P : Face → Type 0} → Lasts m P → (f : Face) (n v : ℕ) → P f → P (write_register_of f m n v).face
+pub write_register_lasts : {m : List ℕ} {P : Face → Type 0} → Lasts m P → (f : Face) (n v : ℕ) → P f → P (write_register_of f m n v).left
 unfolding write_register_of
 write_register_lasts {m} {P} c f n v p =
     pick_both Q (within 1 6 n) _ _ (c.hot f _ p) (pick_both Q (eqb n 7) _ _ (command_lasts c f v p) (pick_both Q (eqb n 8) _ _ (control_lasts c f v p) p))
   where
-    Q : Told → Type 0
-    Q t = P t.face
+    Q : Shows Face → Type 0
+    Q t = P t.left
 
 -- ---- words
 
-pub read_word_lasts : {m : List ℕ} {P : Face → Type 0} → Lasts m P → (f : Face) (t : Transfer) → P f → P (read_word_as f m t).face
+pub read_word_lasts : {m : List ℕ} {P : Face → Type 0} → Lasts m P → (f : Face) (t : Transfer) → P f → P (read_word_as f m t).left
 unfolding read_run_of read_next_of read_buffer_word
 read_word_lasts c f Idle p = p
 read_word_lasts {m} {P} c f (Reading r) p =

@@ -43,7 +43,7 @@ use Rattle.face.specs.declared.Transfer.{Transfer}
 use Rattle.face.specs.declared.Transfer.TheVariants.{Idle, Reading, Writing, ReadingBuffer, WritingBuffer, TakingPassword}
 use Rattle.face.specs.declared.Hot.{Hot}
 use Rattle.face.specs.declared.Face.{Face}
-use Rattle.face.specs.declared.Seen.{Seen}
+use Rattle.face.specs.declared.Shows.{Shows}
 use Rattle.face.specs.declared.Action.{Action}
 use Rattle.face.specs.declared.Action.TheVariants.{ReadRegister, WriteRegister, ReadWord, WriteWord, HardwareReset, PowerOn, Line}
 use Rattle.transfers.specs.Sectors.{located, after_of, first_run, next_run, not_found_of}
@@ -54,7 +54,6 @@ use Rattle.reading.specs.Words.{read_next_of, read_run_of, read_word_as, read_wo
 use Rattle.writing.specs.Words.{want_as, want_at, write_next_of, write_last_as, write_last_of, write_run_of}
 use Rattle.fastpath.specs.Dev.{dev_set, ignored_of}
 use Rattle.face.specs.Setup.{zero_face}
-use Rattle.transfers.specs.declared.Told.{Told}
 use Rattle.commands.specs.Others.{seek_as, seek_of, recalibrate_of, initialize_as, initialize_parameters_of, diagnostic_of, identify_device_of, read_buffer_of, write_buffer_of, take_password_of, erase_prepare_of, freeze_lock_of}
 use Rattle.commands.specs.Gate.{begun_of, abort_at_once, run_of, stations_of, command_of}
 use Rattle.shape.specs.Shape.{parts_fit, disk_fits}
@@ -158,7 +157,7 @@ command_placed f m code =
         moved (inl e) = idle e
         moved (inr e) = stays (e ∙ ap (λ (r : Registers). r.at) (drop_leaves f).regs)
 
-read_word_placed : (f : Face) (m : List ℕ) (t : Transfer) → Placed f.hot.regs.at (read_word_as f m t).face
+read_word_placed : (f : Face) (m : List ℕ) (t : Transfer) → Placed f.hot.regs.at (read_word_as f m t).left
 unfolding read_run_of read_next_of read_buffer_word
 read_word_placed f m Idle = stays refl
 read_word_placed f m (Reading r) =
@@ -235,12 +234,12 @@ open_clear h e o = go (alone_clauses h e)
     go (inr p) = absurd (false≢true (sym o ∙ p.1))
 
 read_word_open : (f : Face) (m : List ℕ) (t : Transfer) → f.hot.transfer ≡ t → Fits f → alone_fits f.hot ≡ true → is_idle t ≡ false
-    → alone_fits (read_word_as f m t).face.hot ≡ true
+    → alone_fits (read_word_as f m t).left.hot ≡ true
 read_word_open f m t e k a o =
     placed_alone f.hot _ (open_clear f.hot a (ap is_idle e ∙ o)) (read_word_held f m t e k o) (read_word_placed f m t)
 
 read_word_alone : (f : Face) (m : List ℕ) (t : Transfer) → f.hot.transfer ≡ t → Fits f → alone_fits f.hot ≡ true
-    → alone_fits (read_word_as f m t).face.hot ≡ true
+    → alone_fits (read_word_as f m t).left.hot ≡ true
 read_word_alone f m Idle e k a = a
 read_word_alone f m (Reading r) e k a = read_word_open f m (Reading r) e k a refl
 read_word_alone f m (Writing r) e k a = read_word_open f m (Writing r) e k a refl
@@ -263,14 +262,14 @@ write_word_alone f x m w (WritingBuffer n) e k a = write_word_open f x m w (Writ
 write_word_alone f x m w (TakingPassword b) e k a = write_word_open f x m w (TakingPassword b) e k a refl
 
 -- reads change neither address nor transfer nor reset
-read_alone : (h : Hot) (n : ℕ) → alone_fits h ≡ true → alone_fits (read_register h n).hot ≡ true
+read_alone : (h : Hot) (n : ℕ) → alone_fits h ≡ true → alone_fits (read_register h n).left ≡ true
 unfolding read_register alone_fits dev_set
 read_alone h n a =
     pick_both P (eqb n 1) _ _ a (pick_both P (eqb n 2) _ _ a (pick_both P (eqb n 3) _ _ a (pick_both P (eqb n 4) _ _ a
     (pick_both P (eqb n 5) _ _ a (pick_both P (eqb n 6) _ _ a (pick_both P (eqb n 7) _ _ a (pick_both P (eqb n 8) _ _ a a)))))))
   where
-    P : Seen → Type 0
-    P s = alone_fits s.hot ≡ true
+    P : Shows Hot → Type 0
+    P s = alone_fits s.left ≡ true
 
 -- a register is stored only where nothing is open or held
 busy_not : (held idle : Bool) → pick held true (pick idle false true) ≡ false → (held ≡ false) × (idle ≡ true)
@@ -335,12 +334,12 @@ answered_cases true false dev e s = inl e
 answered_cases false ninety dev e s = absurd (false≢true s)
 
 write_register_alone : (f : Face) (m : List ℕ) (n v : ℕ) → Fits f → alone_fits f.hot ≡ true → ignored_of f.hot (WriteRegister n v) ≡ false
-    → alone_fits (write_register_of f m n v).face.hot ≡ true
+    → alone_fits (write_register_of f m n v).left.hot ≡ true
 unfolding write_register_of ignored_of
 write_register_alone f m n v k a i =
-    pick_each (λ (t : Told). alone_fits t.face.hot ≡ true) (within 1 6 n) _ _ (λ w. put_alone f.hot n v a)
-    (λ w. pick_each (λ (t : Told). alone_fits t.face.hot ≡ true) (eqb n 7) _ _ (λ e. command_alone f m v k a (named (answered_cases (eqb n 7) (eqb v 0x90) (dev_set f.hot) i e)))
-    (λ e. pick_each (λ (t : Told). alone_fits t.face.hot ≡ true) (eqb n 8) _ _ (λ z. control_alone f v a) (λ z. a)))
+    pick_each (λ (t : Shows Face). alone_fits t.left.hot ≡ true) (within 1 6 n) _ _ (λ w. put_alone f.hot n v a)
+    (λ w. pick_each (λ (t : Shows Face). alone_fits t.left.hot ≡ true) (eqb n 7) _ _ (λ e. command_alone f m v k a (named (answered_cases (eqb n 7) (eqb v 0x90) (dev_set f.hot) i e)))
+    (λ e. pick_each (λ (t : Shows Face). alone_fits t.left.hot ≡ true) (eqb n 8) _ _ (λ z. control_alone f v a) (λ z. a)))
   where
     named : (dev_set f.hot ≡ false) ⊎ (eqb v 0x90 ≡ true) → (dev_set f.hot ≡ false) ⊎ (v ≡ 0x90)
     named (inl d) = inl d

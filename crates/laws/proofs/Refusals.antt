@@ -17,7 +17,7 @@ use Rattle.face.specs.Face.{with_hot}
 use Rattle.face.specs.Reads.{number_of, seen, read_register, value_of}
 use Rattle.face.specs.declared.Hot.{Hot}
 use Rattle.face.specs.declared.Face.{Face}
-use Rattle.face.specs.declared.Seen.{Seen}
+use Rattle.face.specs.declared.Shows.{Shows}
 use Rattle.face.specs.declared.Transfer.{Transfer}
 use Rattle.face.specs.declared.Transfer.TheVariants.{Idle, Reading, Writing, ReadingBuffer, WritingBuffer, TakingPassword}
 use Rattle.face.specs.declared.Answer.{Answer}
@@ -26,7 +26,6 @@ use Rattle.face.specs.declared.Action.{Action}
 use Rattle.face.specs.declared.Action.TheVariants.{ReadRegister, WriteRegister, ReadWord, WriteWord, HardwareReset, PowerOn, Line}
 use Rattle.transfers.specs.Words.{told, no_transfer}
 use Rattle.reading.specs.Words.{read_word_as, read_word_of}
-use Rattle.transfers.specs.declared.Told.{Told}
 use Rattle.password.specs.Passwords.{password_last, password_word}
 use Rattle.effects.specs.Effects.{Effect}
 use Rattle.disk.specs.Actions.{word_refused, write_register_of, write_word_as, write_word_of, act_of}
@@ -51,14 +50,14 @@ read_answer h n =
     pick_both P (eqb n 1) _ _ (inl refl) (pick_both P (eqb n 2) _ _ (inl refl) (pick_both P (eqb n 3) _ _ (inl refl) (pick_both P (eqb n 4) _ _ (inl refl)
     (pick_both P (eqb n 5) _ _ (inl refl) (pick_both P (eqb n 6) _ _ (inl refl) (pick_both P (eqb n 7) _ _ (inl refl) (pick_both P (eqb n 8) _ _ (inl refl) (inr refl))))))))
   where
-    P : Seen → Type 0
+    P : Shows Hot → Type 0
     P s = (s.answer ≡ Done) ⊎ (s ≡ seen h NoRegister 0)
 
 write_answer : (f : Face) (m : List ℕ) (n v : ℕ) → ((write_register_of f m n v).answer ≡ Done) ⊎ (write_register_of f m n v ≡ told f NoRegister 0)
 unfolding write_register_of
 write_answer f m n v = pick_both P (within 1 6 n) _ _ (inl refl) (pick_both P (eqb n 7) _ _ (inl refl) (pick_both P (eqb n 8) _ _ (inl refl) (inr refl)))
   where
-    P : Told → Type 0
+    P : Shows Face → Type 0
     P t = (t.answer ≡ Done) ⊎ (t ≡ told f NoRegister 0)
 
 pub read_word_answer : (f : Face) (m : List ℕ) (t : Transfer) → ((read_word_as f m t).answer ≡ Done) ⊎ (read_word_as f m t ≡ no_transfer f)
@@ -89,17 +88,17 @@ act_honest d m (ReadRegister n) = go (read_answer d.face.hot n)
     go : ((read_register d.face.hot n).answer ≡ Done) ⊎ (read_register d.face.hot n ≡ seen d.face.hot NoRegister 0) → Honest d m (acted_of d m (ReadRegister n))
     go (inl e) = inl (ap number_of e)
     go (inr e) =
-        inr record { value = ap (λ (s : Seen). value_of s.answer s.value) e; device = ap (λ (s : Seen). device_of (with_hot d.face s.hot) d.secrets) e; sectors = refl }
+        inr record { value = ap (λ (s : Shows Hot). value_of s.answer s.value) e; device = ap (λ (s : Shows Hot). device_of (with_hot d.face s.left) d.secrets) e; sectors = refl }
 act_honest d m (WriteRegister n v) = go (write_answer d.face m n v)
   where
     go : ((write_register_of d.face m n v).answer ≡ Done) ⊎ (write_register_of d.face m n v ≡ told d.face NoRegister 0) → Honest d m (acted_of d m (WriteRegister n v))
     go (inl e) = inl (ap number_of e)
-    go (inr e) = inr record { value = ap (λ (s : Told). value_of s.answer s.value) e; device = ap (λ (s : Told). device_of s.face d.secrets) e; sectors = refl }
+    go (inr e) = inr record { value = ap (λ (s : Shows Face). value_of s.answer s.value) e; device = ap (λ (s : Shows Face). device_of s.left d.secrets) e; sectors = refl }
 act_honest d m ReadWord = go (read_word_answer d.face m d.face.hot.transfer)
   where
     go : ((read_word_as d.face m d.face.hot.transfer).answer ≡ Done) ⊎ (read_word_as d.face m d.face.hot.transfer ≡ no_transfer d.face) → Honest d m (acted_of d m ReadWord)
     go (inl e) = inl (ap number_of e)
-    go (inr e) = inr record { value = ap (λ (s : Told). value_of s.answer s.value) e; device = ap (λ (s : Told). device_of s.face d.secrets) e; sectors = refl }
+    go (inr e) = inr record { value = ap (λ (s : Shows Face). value_of s.answer s.value) e; device = ap (λ (s : Shows Face). device_of s.left d.secrets) e; sectors = refl }
 act_honest d m (WriteWord w) = go (write_word_answer d.face d.secrets m w d.face.hot.transfer)
   where
     go : ((write_word_as d.face d.secrets m w d.face.hot.transfer).acted.answer ≡ Done) ⊎ (write_word_as d.face d.secrets m w d.face.hot.transfer ≡ word_refused d.face d.secrets m)

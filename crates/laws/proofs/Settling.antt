@@ -47,10 +47,10 @@ lasts c m =
 pub drop_settles : {P : Settled → Type 0} → Closed P → (f : Face) → P f.settled → P (dropped_of f).settled
 drop_settles c f p = drop_lasts (lasts c []) f p
 
-pub write_register_settles : {P : Settled → Type 0} → Closed P → (f : Face) (m : List ℕ) (n v : ℕ) → P f.settled → P (write_register_of f m n v).face.settled
+pub write_register_settles : {P : Settled → Type 0} → Closed P → (f : Face) (m : List ℕ) (n v : ℕ) → P f.settled → P (write_register_of f m n v).left.settled
 write_register_settles c f m n v p = write_register_lasts (lasts c m) f n v p
 
-pub read_word_settles : {P : Settled → Type 0} → Closed P → (f : Face) (m : List ℕ) (t : Transfer) → P f.settled → P (read_word_as f m t).face.settled
+pub read_word_settles : {P : Settled → Type 0} → Closed P → (f : Face) (m : List ℕ) (t : Transfer) → P f.settled → P (read_word_as f m t).left.settled
 read_word_settles c f m t p = read_word_lasts (lasts c m) f t p
 
 pub write_word_settles : {P : Settled → Type 0} → Closed P → (f : Face) (x : Secrets) (m : List ℕ) (w : ℕ) (t : Transfer)

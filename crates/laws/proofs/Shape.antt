@@ -57,8 +57,7 @@ use Rattle.writing.specs.Words.{want_as, want_at, write_next_of, write_last_as, 
 use Rattle.commands.specs.Others.{seek_as, seek_of, recalibrate_of, initialize_as, initialize_parameters_of, diagnostic_of, identify_device_of, read_buffer_of, write_buffer_of, take_password_of, erase_prepare_of, freeze_lock_of}
 use Rattle.commands.specs.Gate.{begun_of, abort_at_once, run_of, stations_of, command_of}
 use Rattle.shape.specs.Shape.{is_named, run_fits, purpose_fits, password_fits, transfer_fits, held_fits}
-use Rattle.transfers.specs.declared.Told.{Told}
-use Rattle.face.specs.declared.Seen.{Seen}
+use Rattle.face.specs.declared.Shows.{Shows}
 use Rattle.effects.specs.declared.Acted.{Acted}
 use Rattle.password.specs.Passwords.{password_ended, ended_as, judgement_of, password_last, password_word}
 use Rattle.shape.proofs.Clauses.{Fits}
@@ -288,7 +287,7 @@ read_buffer_free f n u = pick_each Free (ltb n 255) _ _ (λ q. record { sound = 
 transfer_clause : (f : Face) (t : Transfer) → Fits f → f.hot.transfer ≡ t → transfer_fits f.settled t ≡ true
 transfer_clause f t k e = sym (ap (transfer_fits f.settled) e) ∙ k.fits
 
-read_word_fits : (f : Face) (m : List ℕ) (t : Transfer) → f.hot.transfer ≡ t → Fits f → Fits (read_word_as f m t).face
+read_word_fits : (f : Face) (m : List ℕ) (t : Transfer) → f.hot.transfer ≡ t → Fits f → Fits (read_word_as f m t).left
 read_word_fits f m Idle e k = k
 read_word_fits f m (Reading r) e k = free_fits _ (read_run_free f m r (open_running f k (ap is_idle e)) (transfer_clause f (Reading r) k e))
 read_word_fits f m (Writing r) e k = k
@@ -342,7 +341,7 @@ write_word_fits f x m w (WritingBuffer n) e k = free_fits _ (write_buffer_free f
 write_word_fits f x m w (TakingPassword b) e k = free_fits _ (password_word_free f x b w (open_running f k (ap is_idle e)) (transfer_clause f (TakingPassword b) k e))
 
 -- where a transfer is open, a word leaves no reset held
-pub read_word_held : (f : Face) (m : List ℕ) (t : Transfer) → f.hot.transfer ≡ t → Fits f → is_idle t ≡ false → (read_word_as f m t).face.hot.signals.held ≡ false
+pub read_word_held : (f : Face) (m : List ℕ) (t : Transfer) → f.hot.transfer ≡ t → Fits f → is_idle t ≡ false → (read_word_as f m t).left.hot.signals.held ≡ false
 read_word_held f m Idle e k o = absurd (false≢true (sym o))
 read_word_held f m (Reading r) e k o = (read_run_free f m r (open_running f k (ap is_idle e)) (transfer_clause f (Reading r) k e)).free
 read_word_held f m (Writing r) e k o = open_free f k (ap is_idle e)
@@ -371,11 +370,11 @@ unfolding held_fits
 kept_fits f h k e =
     record { sound = k.sound; held = rw (e.held, e.transfer) k.held; fits = ap (transfer_fits f.settled) e.transfer ∙ k.fits }
 
-read_kept : (h : Hot) (n : ℕ) → Kept h (read_register h n).hot
+read_kept : (h : Hot) (n : ℕ) → Kept h (read_register h n).left
 unfolding read_register
 read_kept h n =
-    pick_both (λ (s : Seen). Kept h s.hot) (eqb n 1) _ _ same (pick_both (λ (s : Seen). Kept h s.hot) (eqb n 2) _ _ same (pick_both (λ (s : Seen). Kept h s.hot) (eqb n 3) _ _ same (pick_both (λ (s : Seen). Kept h s.hot) (eqb n 4) _ _ same (pick_both (λ (s : Seen). Kept h s.hot) (eqb n 5) _ _ same
-    (pick_both (λ (s : Seen). Kept h s.hot) (eqb n 6) _ _ same (pick_both (λ (s : Seen). Kept h s.hot) (eqb n 7) _ _ record { held = refl; transfer = refl } (pick_both (λ (s : Seen). Kept h s.hot) (eqb n 8) _ _ same same)))))))
+    pick_both (λ (s : Shows Hot). Kept h s.left) (eqb n 1) _ _ same (pick_both (λ (s : Shows Hot). Kept h s.left) (eqb n 2) _ _ same (pick_both (λ (s : Shows Hot). Kept h s.left) (eqb n 3) _ _ same (pick_both (λ (s : Shows Hot). Kept h s.left) (eqb n 4) _ _ same (pick_both (λ (s : Shows Hot). Kept h s.left) (eqb n 5) _ _ same
+    (pick_both (λ (s : Shows Hot). Kept h s.left) (eqb n 6) _ _ same (pick_both (λ (s : Shows Hot). Kept h s.left) (eqb n 7) _ _ record { held = refl; transfer = refl } (pick_both (λ (s : Shows Hot). Kept h s.left) (eqb n 8) _ _ same same)))))))
   where
     same : Kept h h
     same = record { held = refl; transfer = refl }
@@ -410,11 +409,11 @@ unfolding control_of held_fits
 control_fits f v k =
     pick_each Fits (srst_of v) _ _ (λ e. soft_reset_fits f (nien_of v) k.sound) (λ e. record { sound = k.sound; held = refl; fits = k.fits })
 
-write_register_fits : (f : Face) (m : List ℕ) (n v : ℕ) → Fits f → Fits (write_register_of f m n v).face
+write_register_fits : (f : Face) (m : List ℕ) (n v : ℕ) → Fits f → Fits (write_register_of f m n v).left
 unfolding write_register_of
 write_register_fits f m n v k =
-    pick_both (λ (t : Told). Fits t.face) (within 1 6 n) _ _ (kept_fits f _ k (put_kept f.hot n v))
-    (pick_both (λ (t : Told). Fits t.face) (eqb n 7) _ _ (command_fits f m v k) (pick_both (λ (t : Told). Fits t.face) (eqb n 8) _ _ (control_fits f v k) k))
+    pick_both (λ (t : Shows Face). Fits t.left) (within 1 6 n) _ _ (kept_fits f _ k (put_kept f.hot n v))
+    (pick_both (λ (t : Shows Face). Fits t.left) (eqb n 7) _ _ (command_fits f m v k) (pick_both (λ (t : Shows Face). Fits t.left) (eqb n 8) _ _ (control_fits f v k) k))
 
 -- every action keeps the disk in shape
 pub act_fits : (f : Face) (x : Secrets) (m : List ℕ) (a : Action) → Fits f → Fits (act_of f x m a).acted.face

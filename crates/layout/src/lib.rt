@@ -185,7 +185,8 @@ pub fn settled_at(state: &State) -> Settled
     }
 }
 
-// Bytes 0 to 98.
+// Bytes 0 to 98. Out of line it would write the whole front to memory, of which a call often reads few bytes (docs/SPEED.md).
+#[inline(always)]
 pub fn front_at(state: &State) -> Front
     ensures { (result.hot ≡ hot_stored state.now) × (result.settled ≡ settled_stored state.now) }
 {

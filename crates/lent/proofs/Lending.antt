@@ -2,7 +2,7 @@
 use Prim.Native.Nat.{ℕ, ◌+◌, ◌≤◌, ◌<◌}
 use mathlib.Core.Bool.{Bool, true, false}
 use mathlib.Core.Path.{◌≡◌, refl, sym, ap, ◌∙◌}
-use mathlib.Core.List.{List, ◌++◌, append_assoc}
+use mathlib.Core.List.{List, [], ◌++◌, append_assoc}
 use native.Mathlib.Omega.{arith}
 use borrow.Author.Tests.{eqb-true, ne_eqb}
 use lib.Dec.{eqb}
@@ -91,6 +91,10 @@ admitted b x m e =
     (λ s. absurd (false≢true (sym (ap is_refusal (rw (f, s) at e))))))
     (λ f. absurd (false≢true (sym (ap is_refusal (rw f at e)))))
 
+-- and there are as many of them as a state has
+pub admitted_long : (b m : List ℕ) → Done ≡ admission_of b m → length b ≡ 163
+admitted_long b m e = formed_long b (admitted b [] m (sym e)).formed
+
 -- over the memory that is lent, the sectors that addresses name are there
 pub lent_memory : (b x m : List ℕ) (s : Settled) → Admitted b x m → s ≡ settled_stored b → Memory s.geometry s.translation m
 lent_memory b x m s k e = rw e (shaped_memory (device_stored b x) m k.ready.shaped k.ready.long)
@@ -103,11 +107,6 @@ lent_ready b x m a k = rw k.formed (ap lent_of (ready_step (device_stored b x) m
 pub ready_gives : (b x m : List ℕ) (a : Action) (r : Reply) (b' x' m' : List ℕ) → Done ≡ admission_of b m
     → GivesBack (lent_of (alone_of (device_stored b x) m a)) r b' x' m' → GivesBack (lent_step b x m a) r b' x' m'
 ready_gives b x m a r b' x' m' e k = rw (lent_ready b x m a (admitted b x m (sym e))) k
-
--- bytes of another number are left
-pub other_gives : (b x m : List ℕ) (a : Action) (r : Reply) → (length b ≡ 163 → ⊥) → r ≡ host_reply (number_of OutOfShape) 0 → GivesBack (lent_step b x m a) r b x m
-unfolding lent_step formed_of
-other_gives b x m a r k e = rw (ne_eqb _ _ k) (record { reply = e; state = refl; buffer = refl; sectors = refl })
 
 -- turned away, it leaves everything
 turned_away_law : (b x m : List ℕ) (a : Action) → LowBytes b → is_refusal (admission_of b m) ≡ true → lent_step b x m a ≡ left_alone b x m (admission_of b m)

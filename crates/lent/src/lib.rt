@@ -27,13 +27,19 @@ pub fn answered(number: u8, value: u32) -> Reply
     }
 }
 
+pub fn done(value: u32) -> Reply
+    ensures { result ≡ host_reply (number_of Answer.Done) value }
+{
+    answered(Answer::Done.number(), value)
+}
+
 pub fn refused(answer: Answer) -> Reply
     ensures { result ≡ host_reply (number_of answer) 0 }
 {
     answered(answer.number(), 0)
 }
 
-// Whether a call goes on: Done, or why it is turned away.
+// Whether a call goes on: Done, or why it is turned away. At Done the state has its 163 bytes, so that callers unwrap the array.
 #[tactic(auto, unfolding(crate::specs::Lent::admission_of))]
 pub fn admission(state: &[u8], sectors: &[u8]) -> Answer
     ensures { result ≡ admission_of state.now sectors.now }

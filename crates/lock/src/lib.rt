@@ -40,6 +40,7 @@ pub enum Purpose {
     Disable,
 }
 
+// Each state has its word, which rules and contracts use; one function over the state asked for would be `matches!` itself.
 impl Lock {
     pub fn open(self) -> bool
         ensures { result ≡ is_open self }

@@ -9,7 +9,7 @@ use lib.Seq.{sets, length-sets}
 use Rattle.std.specs.Prelude.{Option, Some, None, Result, Ok, Err}
 use Rattle.face.specs.Reads.{seen}
 use Rattle.face.specs.declared.Hot.{Hot}
-use Rattle.face.specs.declared.Seen.{Seen}
+use Rattle.face.specs.declared.Shows.{Shows}
 use Rattle.face.specs.declared.Answer.TheVariants.{Done}
 use Rattle.fastpath.specs.Dev.{quick_alone, quick_alone_buffer}
 use Rattle.glance.specs.Places.{place_of, hot_at}
@@ -42,7 +42,7 @@ unfolding swift_of
 swift_full n l w h = let g : n ≡ 0 = omega arith in ap (λ (k : ℕ). swift_of k l w) g
 
 -- a record that the fast path settles is behind it
-pub swift_next : (n : ℕ) (l : List ℕ) (w : Way) (r : Record) (x : Seen) → next_of (drop w.stand.at l) ≡ Ok r
+pub swift_next : (n : ℕ) (l : List ℕ) (w : Way) (r : Record) (x : Shows Hot) → next_of (drop w.stand.at l) ≡ Ok r
     → quick_alone w.stand.hot w.buffer r.action ≡ Some x
     → swift_of (suc n) l w ≡ swift_of n l (way_behind w r.size (quick_alone_buffer w.stand.hot w.buffer r.action) x)
 unfolding swift_of swift_as swift_quick
@@ -55,7 +55,7 @@ unfolding swift_of swift_as swift_quick
 swift_fewer zero l w = omega arith
 swift_fewer (suc n) l w = found (λ v. swift_fewer n l v) (next_of (drop w.stand.at l))
   where
-    settled : ((v : Way) → (swift_of n l v).stand.left ≤ v.stand.left) → (size : ℕ) (b : List ℕ) (q : Option Seen) → (swift_quick (swift_of n l) w size b q).stand.left ≤ w.stand.left
+    settled : ((v : Way) → (swift_of n l v).stand.left ≤ v.stand.left) → (size : ℕ) (b : List ℕ) (q : Option (Shows Hot)) → (swift_quick (swift_of n l) w size b q).stand.left ≤ w.stand.left
     settled rest size b (Some x) = let g : (swift_of n l (way_behind w size b x)).stand.left ≤ w.stand.left - 1 = rest (way_behind w size b x) in omega arith
     settled rest size b None = omega arith
 
@@ -70,7 +70,7 @@ swift_stands zero l w h s = s
 swift_stands (suc n) l w h s = found (λ v g t. swift_stands n l v g t) (next_of (drop w.stand.at l)) refl
   where
     settled : ((v : Way) → n ≤ v.stand.left → Stands l v.out v.stand → Stands l (swift_of n l v).out (swift_of n l v).stand)
-        → (r : Record) → next_of (drop w.stand.at l) ≡ Ok r → (b : List ℕ) (q : Option Seen)
+        → (r : Record) → next_of (drop w.stand.at l) ≡ Ok r → (b : List ℕ) (q : Option (Shows Hot))
         → Stands l (swift_quick (swift_of n l) w r.size b q).out (swift_quick (swift_of n l) w r.size b q).stand
     settled rest r e b (Some x) =
         let below : w.stand.at ≤ length l = s.below in
@@ -99,9 +99,9 @@ onward_ends f e = sym (f.same ∙ e)
 
 -- one record that the fast path settles
 pub onward_quick : (l : List ℕ) (w : Way) → Stands l w.out w.stand → 0 < w.stand.left → (r : Record) → next_of (drop w.stand.at l) ≡ Ok r
-    → (x : Seen) → quick_alone w.stand.hot w.buffer r.action ≡ Some x → (b : List ℕ) → b ≡ quick_alone_buffer w.stand.hot w.buffer r.action
+    → (x : Shows Hot) → quick_alone w.stand.hot w.buffer r.action ≡ Some x → (b : List ℕ) → b ≡ quick_alone_buffer w.stand.hot w.buffer r.action
     → (out : List ℕ) → out ≡ sets w.out w.stand.put (settled_reply x)
-    → Onward l w (way_at (stand_at x.hot (w.stand.at + r.size) (w.stand.put + 5) (w.stand.left - 1)) b out)
+    → Onward l w (way_at (stand_at x.left (w.stand.at + r.size) (w.stand.put + 5) (w.stand.left - 1)) b out)
 onward_quick l w h g r e x q b f out o =
     let y : length out ≡ length w.out = ap length o ∙ length-sets w.out w.stand.put (settled_reply x) in
     let v : r.size ≤ length l - w.stand.at = rest_within l w.stand.at r e in
@@ -113,7 +113,7 @@ onward_quick l w h g r e x q b f out o =
           ap (λ (k : ℕ). swift_of k l w) n
           ∙ swift_next (w.stand.left - 1) l w r x e q
           ∙ ap (λ (i : List ℕ). swift_of (w.stand.left - 1) l (way_behind w r.size i x)) (sym f)
-          ∙ ap (λ (i : List ℕ). swift_of (w.stand.left - 1) l (way_at (stand_at x.hot (w.stand.at + r.size) (w.stand.put + 5) (w.stand.left - 1)) b i)) (sym o);
+          ∙ ap (λ (i : List ℕ). swift_of (w.stand.left - 1) l (way_at (stand_at x.left (w.stand.at + r.size) (w.stand.put + 5) (w.stand.left - 1)) b i)) (sym o);
       stands = record { below = omega arith; room = omega arith };
       fewer = omega arith;
       all = y;
@@ -122,9 +122,9 @@ onward_quick l w h g r e x q b f out o =
 -- the same, by what the steps to it gave
 pub onward_settled : {l : List ℕ} {w : Way} → Stands l w.out w.stand → 0 < w.stand.left
     → {i : Result Record NoRecord} {r : Record} → i ≡ next_of (take (length l - w.stand.at) (drop w.stand.at l)) → i ≡ Ok r
-    → {q : Option Seen} {x : Seen} → q ≡ quick_alone w.stand.hot w.buffer r.action → q ≡ Some x → {b : List ℕ} → b ≡ quick_alone_buffer w.stand.hot w.buffer r.action
+    → {q : Option (Shows Hot)} {x : Shows Hot} → q ≡ quick_alone w.stand.hot w.buffer r.action → q ≡ Some x → {b : List ℕ} → b ≡ quick_alone_buffer w.stand.hot w.buffer r.action
     → {out : List ℕ} → out ≡ sets w.out w.stand.put (settled_reply x)
-    → {t : Stand} → t ≡ stand_at x.hot (w.stand.at + r.size) (w.stand.put + 5) (w.stand.left - 1) → Onward l w (way_at t b out)
+    → {t : Stand} → t ≡ stand_at x.left (w.stand.at + r.size) (w.stand.put + 5) (w.stand.left - 1) → Onward l w (way_at t b out)
 onward_settled {l} {w} h g {r = r} e i {x = x} q s {b} f {out} o t =
     rw t (onward_quick l w h g r (rest_starts l w.stand.at _ _ e i) x (sym q ∙ s) b f out o)
 

@@ -3,7 +3,7 @@ use Rattle.std.specs.Prelude.{ℕ, zero, suc, ◌+◌, ◌-◌, ◌*◌, ◌≤�
 use Rattle.std.proofs.lemmas.List.Edits.{sets}
 use Rattle.face.specs.Reads.{number_of, value_of}
 use Rattle.face.specs.declared.Hot.{Hot}
-use Rattle.face.specs.declared.Seen.{Seen}
+use Rattle.face.specs.declared.Shows.{Shows}
 use Rattle.fastpath.specs.Dev.{quick_alone, quick_alone_buffer}
 use Rattle.records.specs.Records.{next_of}
 use Rattle.records.specs.Replies.{reply_bytes}
@@ -31,16 +31,16 @@ abbrev pub way_at : Stand → List ℕ → List ℕ → Way
 way_at s b out = record { stand = s; buffer = b; out = out }
 
 -- "per record length 0003h, answer, two-byte value"
-abbrev pub settled_reply : Seen → List ℕ
+abbrev pub settled_reply : Shows Hot → List ℕ
 settled_reply s = reply_bytes (number_of s.answer) (value_of s.answer s.value)
 
 -- the way behind a record of `size` bytes that was settled so, with the buffer that it left
-abbrev pub way_behind : Way → ℕ → List ℕ → Seen → Way
+abbrev pub way_behind : Way → ℕ → List ℕ → Shows Hot → Way
 way_behind w size b s =
-    way_at (stand_at s.hot (w.stand.at + size) (w.stand.put + 5) (w.stand.left - 1)) b (sets w.out w.stand.put (settled_reply s))
+    way_at (stand_at s.left (w.stand.at + size) (w.stand.put + 5) (w.stand.left - 1)) b (sets w.out w.stand.put (settled_reply s))
 
 -- a record that the fast path settles is replied to; at one that needs the long way it stops
-unfoldable pub swift_quick : (Way → Way) → Way → ℕ → List ℕ → Option Seen → Way
+unfoldable pub swift_quick : (Way → Way) → Way → ℕ → List ℕ → Option (Shows Hot) → Way
 swift_quick rest w size b (Some s) = rest (way_behind w size b s)
 swift_quick rest w size b None = w
 

@@ -5,10 +5,10 @@ ghost use Rattle.std.specs.Prelude.{◌≡◌, ◌+◌, ◌≤◌, length};
 ghost use Rattle.std.proofs.lemmas.List.Edits.{sets};
 ghost use Rattle.loops.specs.Ways.{stand_at, Stands, settled_reply, way_at, swift_of, Onward};
 
-use face::{Hot, Seen};
+use face::{Hot, Shows};
 
 // The reply to a record that the fast path settled.
-fn answer(out: &mut [u8], put: usize, seen: Seen)
+fn answer(out: &mut [u8], put: usize, seen: Shows<Hot>)
     requires { put + 5 ≤ length out.old }
     ensures { out.new ≡ sets out.old put (settled_reply seen) }
 {
@@ -16,7 +16,7 @@ fn answer(out: &mut [u8], put: usize, seen: Seen)
     records::reply(out, put, seen.answer.number(), value);
 }
 
-// Where a loop over the hot part stands: the next record's place, its reply's, and how many replies fit behind that one.
+// Where a loop over the hot part stands (that it does within recording and reply is the clause Stands, on these two slices besides): the next record's place, its reply's, and how many replies fit behind that one.
 #[derive(Clone, Copy)]
 pub struct Stand {
     pub hot: Hot,
@@ -79,7 +79,12 @@ pub fn swift(from: Stand, buffer: &mut [u8; 512], rec: &[u8], out: &mut [u8]) ->
             break;
         };
         answer(out, here.put, seen);
-        here = standing(seen.hot, here.at + record.size, here.put + 5, here.left - 1);
+        here = standing(
+            seen.left,
+            here.at + record.size,
+            here.put + 5,
+            here.left - 1,
+        );
         // With no transfer open a glance shows little, and taking the hot part apart for it does not pay.
         if !here.hot.idle() {
             here = glide(here, buffer, rec, out);

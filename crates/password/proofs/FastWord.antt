@@ -6,7 +6,8 @@ use lib.Dec.{ltb}
 use Rattle.std.specs.Prelude.{Option, Some, None}
 use Rattle.base.proofs.Tests.{either_way}
 use Rattle.lock.specs.declared.Secrets.{Secrets}
-use Rattle.face.specs.declared.Seen.{Seen}
+use Rattle.face.specs.declared.Hot.{Hot}
+use Rattle.face.specs.declared.Shows.{Shows}
 use Rattle.face.specs.Face.{with_buffer}
 use Rattle.fastpath.specs.Quick.{quick_write_of, quick_write_buffer}
 use Rattle.face.specs.declared.Face.{Face}
@@ -16,7 +17,7 @@ use Rattle.effects.specs.Effects.{Effect, effect, seen_acted}
 use Rattle.password.specs.Passwords.{password_word, password_word_sectors}
 
 -- what the fast path settled, put in place; else what the long way gives
-abbrev pub quick_then : Face → Secrets → List ℕ → List ℕ → Option Seen → Effect → Effect
+abbrev pub quick_then : Face → Secrets → List ℕ → List ℕ → Option (Shows Hot) → Effect → Effect
 quick_then f x m b (Some s) slow = effect (seen_acted (with_buffer f b) x s) m
 quick_then f x m b None slow = slow
 

@@ -6,7 +6,7 @@ ghost use Rattle.password.specs.Passwords.{password_ended, ended_as, sectors_as,
 
 use effects::Acted;
 use face::{Face, PasswordBlock, Transfer};
-use judging::{Judged, Verdict};
+use judging::{Attempt, Judged, Verdict};
 use lock::{Purpose, Secrets, Security};
 
 // The settings that a password block left, and the buffer zeroed.
@@ -50,8 +50,13 @@ fn judged_ends(face: Face, judged: Judged, sectors: &mut [u8]) -> Acted
 fn password_last(face: Face, secrets: Secrets, purpose: Purpose, sectors: &mut [u8]) -> Acted
     ensures { (result ≡ password_last face secrets purpose) × (sectors.new ≡ password_last_sectors face secrets sectors.old purpose) }
 {
-    let judged = judging::judge(face.settled.security, purpose, secrets, face.buffer);
-    judged_ends(face, judged, sectors)
+    let block = face.buffer;
+    let attempt = Attempt {
+        security: face.settled.security,
+        secrets,
+        block,
+    };
+    judged_ends(face, attempt.judge(purpose), sectors)
 }
 
 // A word of a password block but its last has arrived.

@@ -6,7 +6,8 @@ use mathlib.Core.List.{List}
 use native.Mathlib.Omega.{arith}
 use lib.ListN.{drop}
 use Rattle.std.specs.Prelude.{Option, Some, None, Result, Ok, Err}
-use Rattle.face.specs.declared.Seen.{Seen}
+use Rattle.face.specs.declared.Hot.{Hot}
+use Rattle.face.specs.declared.Shows.{Shows}
 use Rattle.fastpath.specs.Dev.{quick_alone, quick_alone_buffer}
 use Rattle.device.specs.declared.Device.{Device}
 use Rattle.device.proofs.FastStep.{quick_settles}
@@ -41,7 +42,7 @@ swift_plays zero d w h p = p
 swift_plays (suc n) {whole} {last} {l} {out₀} {memory} d {m} w h p = found (λ v g q. swift_plays n d v g q) (next_of (drop w.stand.at l)) refl
   where
     settled : ((v : Way) → n ≤ v.stand.left → PlayingAt whole last l out₀ memory d m v → PlayingAt whole last l out₀ memory d m (swift_of n l v))
-        → (r : Record) → next_of (drop w.stand.at l) ≡ Ok r → (q : Option Seen) → quick_alone w.stand.hot w.buffer r.action ≡ q
+        → (r : Record) → next_of (drop w.stand.at l) ≡ Ok r → (q : Option (Shows Hot)) → quick_alone w.stand.hot w.buffer r.action ≡ q
         → PlayingAt whole last l out₀ memory d m (swift_quick (swift_of n l) w r.size (quick_alone_buffer w.stand.hot w.buffer r.action) q)
     settled rest r e (Some x) q =
         rest (way_behind w r.size (quick_alone_buffer w.stand.hot w.buffer r.action) x) (omega arith) (playing_quick d w (omega arith) r e x q p)

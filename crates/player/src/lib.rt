@@ -90,6 +90,7 @@ impl Course {
     }
 }
 
+// Ready is a clause, as Memory is: device and memory are held apart here (docs/DECISIONS.md, 65).
 // Replays whole records from where it came on, until the reply is full or the bytes are used up.
 pub fn play(from: Came, sectors: &mut [u8], rec: &[u8], last: bool, out: &mut [u8]) -> Came
     requires { Ready from.device sectors.old × ((from.taken ≤ length rec.now) × (from.made ≤ length out.old)) }

@@ -12,7 +12,7 @@ use Rattle.face.specs.declared.Face.{Face}
 use Rattle.transfers.specs.Words.{told, no_transfer, buffer_word}
 use Rattle.transfers.specs.Sectors.{next_run}
 use Rattle.reading.specs.Sectors.{read_at}
-use Rattle.transfers.specs.declared.Told.{Told}
+use Rattle.face.specs.declared.Shows.{Shows}
 
 -- a read ends well: "count is 0 and the address is the last sector's", and "the last word .. raises nothing"
 abbrev pub read_ends : Face → Run → Face
@@ -28,11 +28,11 @@ read_run_of f m r =
     pick (ltb r.word 255) (with_hot f (with_transfer f.hot (Reading (next_word r)))) (read_next_of f m r)
 
 -- a word of a sector is read
-abbrev pub sector_word : Face → List ℕ → Run → Told
+abbrev pub sector_word : Face → List ℕ → Run → Shows Face
 sector_word f m r = told (read_run_of f m r) Done (word_at f.buffer r.word)
 
 -- by kind of transfer
-abbrev pub read_word_as : Face → List ℕ → Transfer → Told
+abbrev pub read_word_as : Face → List ℕ → Transfer → Shows Face
 read_word_as f m Idle = no_transfer f
 read_word_as f m (Reading r) = sector_word f m r
 read_word_as f m (Writing r) = no_transfer f
@@ -41,5 +41,5 @@ read_word_as f m (WritingBuffer n) = no_transfer f
 read_word_as f m (TakingPassword b) = no_transfer f
 
 -- a data word is read
-unfoldable pub read_word_of : Face → List ℕ → Told
+unfoldable pub read_word_of : Face → List ℕ → Shows Face
 read_word_of f m = read_word_as f m f.hot.transfer

@@ -8,8 +8,7 @@ ghost use Rattle.reading.specs.Sectors.{read_at, read_sectors_of, verify_last, v
 ghost use Rattle.reading.specs.Words.{read_next_of, read_run_of, sector_word, read_word_of};
 
 use address::{Address, AddressRegisters};
-use face::{Answer, Face, Front, Hot, Run, Transfer};
-use transfers::Told;
+use face::{Answer, Face, Front, Hot, Run, Shows, Transfer};
 
 // A sector to be read is reached.
 // Memory is a clause and no type, which would take four structs (docs/DECISIONS.md, 65).
@@ -95,17 +94,17 @@ fn read_run(face: Face, run: Run, sectors: &[u8]) -> Face
 }
 
 // A data word of a sector is read.
-fn sector_word(face: Face, run: Run, sectors: &[u8]) -> Told
+fn sector_word(face: Face, run: Run, sectors: &[u8]) -> Shows<Face>
     requires { Memory face.settled.geometry face.settled.translation sectors.now }
     ensures { result ≡ sector_word face sectors.now run }
 {
     let value = block::word_at(&face.buffer, run.word);
-    transfers::tells(read_run(face, run, sectors), Answer::Done, value)
+    face::tells(read_run(face, run, sectors), Answer::Done, value)
 }
 
 // A data word is read.
 #[tactic(auto, unfolding(crate::specs::Words::read_word_of))]
-pub fn read_word(face: Face, sectors: &[u8]) -> Told
+pub fn read_word(face: Face, sectors: &[u8]) -> Shows<Face>
     requires { Memory face.settled.geometry face.settled.translation sectors.now }
     ensures { result ≡ read_word_of face sectors.now }
 {

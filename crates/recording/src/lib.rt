@@ -102,14 +102,12 @@ fn part(
     }
 }
 
-// The bytes from `from` up to `to` move to the front. Slices have no copy_within, and rotating them would move those behind too.
+// The bytes from `from` up to `to` move to the front; those behind stay.
 fn keep(window: &mut [u8], from: usize, to: usize)
     requires { (from ≤ to) × (to ≤ length window.old) }
     ensures { window.new ≡ sets window.old 0 (drop from (take to window.old)) }
 {
-    for moved in 0..to - from {
-        window[moved] = window[from + moved];
-    }
+    window.copy_within(from..to, 0);
 }
 
 impl Stream {

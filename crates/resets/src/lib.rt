@@ -60,7 +60,7 @@ pub fn powered_on(settled: Settled, buffer: &mut [u8; 512]) -> Front
     }
 }
 
-// Device Control bit 2.
+// Device Control bit 2. It and bit 1 are one expression each: a function over the bit would be that expression.
 #[tactic(auto, unfolding(crate::specs::Control::srst_of))]
 fn srst(v: u8) -> bool
     ensures { result ≡ srst_of v }

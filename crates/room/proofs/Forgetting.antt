@@ -21,7 +21,7 @@ use Rattle.resets.specs.Resets.{drop_as, dropped_of}
 use Rattle.resets.specs.Control.{srst_of, control_of}
 use Rattle.fastpath.specs.Dev.{dev_set, ignored_of}
 use Rattle.transfers.specs.Words.{told}
-use Rattle.transfers.specs.declared.Told.{Told}
+use Rattle.face.specs.declared.Shows.{Shows}
 use Rattle.commands.specs.Gate.{begun_of, stations_of, command_of}
 use Rattle.shape.specs.Shape.{parts_fit}
 use Rattle.effects.specs.Effects.{effect}
@@ -61,7 +61,7 @@ register_forgets : (d : Device) (m c : List ℕ) (n v : ℕ) → dev_set d.face.
     → alone_of d m (WriteRegister n v) ≡ alone_of (holding d c) m (WriteRegister n v)
 unfolding act_of
 register_forgets d m c n v q e =
-    clear_acts d m (WriteRegister n v) q ∙ ap (λ (t : Told). step_as (effect (told_acted d.secrets t) m)) e
+    clear_acts d m (WriteRegister n v) q ∙ ap (λ (t : Shows Face). step_as (effect (told_acted d.secrets t) m)) e
     ∙ sym (clear_acts (holding d c) m (WriteRegister n v) q)
 
 -- registers 7 and 8 are what a drop is written to

@@ -30,7 +30,7 @@ use Rattle.face.specs.declared.Action.TheVariants.{ReadRegister, WriteRegister, 
 use Rattle.face.specs.declared.Answer.TheVariants.{Done}
 use Rattle.fastpath.specs.Dev.{ignored_of}
 use Rattle.transfers.specs.Words.{told, word_in}
-use Rattle.transfers.specs.declared.Told.{Told}
+use Rattle.face.specs.declared.Shows.{Shows}
 use Rattle.reading.specs.Words.{read_word_as, read_word_of}
 use Rattle.commands.specs.Gate.{begun_of, abort_at_once, run_of, stations_of, command_of}
 use Rattle.shape.specs.Shape.{run_fits, password_fits, transfer_fits}
@@ -153,8 +153,8 @@ act_guest : (f : Face) (x : Secrets) (m : List ℕ) (a : Action) → LockedIn f.
     → completed_of (block_accepted f.settled.security x) f a ≡ false → act_of f x m a ≡ effect (told_acted x (guest_act f a)) m
 unfolding act_of guest_act completed_of read_word_of write_word_of
 act_guest f x m (ReadRegister n) h k e = refl
-act_guest f x m (WriteRegister n v) h k e = ap (λ (t : Told). effect (told_acted x t) m) (register_guest f m n v h)
-act_guest f x m ReadWord h k e = ap (λ (t : Told). effect (told_acted x t) m) (read_guest f m f.hot.transfer h k)
+act_guest f x m (WriteRegister n v) h k e = ap (λ (t : Shows Face). effect (told_acted x t) m) (register_guest f m n v h)
+act_guest f x m ReadWord h k e = ap (λ (t : Shows Face). effect (told_acted x t) m) (read_guest f m f.hot.transfer h k)
 act_guest f x m (WriteWord w) h k e = write_guest f x m w f.hot.transfer h k e
 act_guest f x m HardwareReset h k e = refl
 act_guest f x m PowerOn h k e = refl

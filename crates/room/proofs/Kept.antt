@@ -18,7 +18,7 @@ use Rattle.face.specs.declared.Action.{Action}
 use Rattle.face.specs.declared.Action.TheVariants.{ReadRegister, WriteRegister, ReadWord, WriteWord, HardwareReset, PowerOn, Line}
 use Rattle.fastpath.specs.Dev.{ignored_of}
 use Rattle.transfers.specs.Words.{write_buffer_word}
-use Rattle.transfers.specs.declared.Told.{Told}
+use Rattle.face.specs.declared.Shows.{Shows}
 use Rattle.reading.specs.Words.{read_word_of}
 use Rattle.laws.proofs.Settling.{Closed, write_register_settles, read_word_settles}
 use Rattle.room.specs.Guest.{refused_security, refused_last, guest_password, guest_word, guest_act, guest_step}
@@ -44,7 +44,7 @@ refused_locked s b Unlock h = search (pick_both LockedBy, mismatched_locked)
 refused_locked s b Erase h = h
 refused_locked s b Disable h = h
 
-word_locked : (f : Face) (w : ℕ) (t : Transfer) → LockedIn f.settled → LockedIn (guest_word f w t).face.settled
+word_locked : (f : Face) (w : ℕ) (t : Transfer) → LockedIn f.settled → LockedIn (guest_word f w t).left.settled
 unfolding write_buffer_word guest_password refused_last
 word_locked f w Idle h = h
 word_locked f w (Reading r) h = h
@@ -54,7 +54,7 @@ word_locked f w (WritingBuffer n) h = pick_both (λ (g : Face). LockedIn g.settl
 word_locked f w (TakingPassword b) h =
     pick_both (λ (g : Face). LockedIn g.settled) (ltb b.word 255) _ _ h (refused_locked f.settled.security _ b.purpose h)
 
-act_locked : (f : Face) (a : Action) → LockedIn f.settled → f.settled.security.enabled ≡ true → LockedIn (guest_act f a).face.settled
+act_locked : (f : Face) (a : Action) → LockedIn f.settled → f.settled.security.enabled ≡ true → LockedIn (guest_act f a).left.settled
 unfolding guest_act read_word_of starting_lock
 act_locked f (ReadRegister n) h e = h
 act_locked f (WriteRegister n v) h e = write_register_settles locked_closed f [] n v h
@@ -64,6 +64,6 @@ act_locked f HardwareReset h e = ap (λ (b : Bool). is_locked (starting_lock b))
 act_locked f PowerOn h e = ap (λ (b : Bool). is_locked (starting_lock b)) e
 act_locked f Line h e = h
 
-pub guest_locked : (f : Face) (a : Action) → LockedIn f.settled → f.settled.security.enabled ≡ true → LockedIn (guest_step f a).face.settled
+pub guest_locked : (f : Face) (a : Action) → LockedIn f.settled → f.settled.security.enabled ≡ true → LockedIn (guest_step f a).left.settled
 unfolding guest_step
-guest_locked f a h e = pick_both (λ (t : Told). LockedIn t.face.settled) (ignored_of f.hot a) _ _ h (act_locked f a h e)
+guest_locked f a h e = pick_both (λ (t : Shows Face). LockedIn t.left.settled) (ignored_of f.hot a) _ _ h (act_locked f a h e)

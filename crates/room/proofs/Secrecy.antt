@@ -30,7 +30,7 @@ locked_enabled d m k h =
 
 -- the device that the guest's step leaves, with its own passwords
 abbrev pub guest_left : Device → Action → Device
-guest_left d a = device_of (guest_step d.face a).face d.secrets
+guest_left d a = device_of (guest_step d.face a).left d.secrets
 
 pub guest_ready : (d : Device) (m : List ℕ) (a : Action) → Ready d m → step_of d m a ≡ guest_leaves d m a → Ready (guest_left d a) m
 guest_ready d m a k e = ready_after d m a (guest_leaves d m a) k (sym (ready_step d m a k) ∙ e) refl

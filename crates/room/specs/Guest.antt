@@ -14,13 +14,13 @@ use Rattle.face.specs.declared.Transfer.TheVariants.{Idle, Reading, Writing, Rea
 use Rattle.face.specs.declared.Answer.TheVariants.{Done}
 use Rattle.face.specs.declared.Action.{Action}
 use Rattle.face.specs.declared.Action.TheVariants.{ReadRegister, WriteRegister, ReadWord, WriteWord, HardwareReset, PowerOn, Line}
-use Rattle.face.specs.declared.Seen.{Seen}
+use Rattle.face.specs.declared.Hot.{Hot}
+use Rattle.face.specs.declared.Shows.{Shows}
 use Rattle.face.specs.declared.Face.{Face}
 use Rattle.resets.specs.Resets.{powered_on_face}
 use Rattle.fastpath.specs.Dev.{ignored_of}
 use Rattle.transfers.specs.Sectors.{abort_face}
 use Rattle.transfers.specs.Words.{told, no_transfer, word_in, write_buffer_word}
-use Rattle.transfers.specs.declared.Told.{Told}
 use Rattle.reading.specs.Words.{read_word_of}
 use Rattle.password.specs.Passwords.{password_ended, password_more}
 use Rattle.disk.specs.Actions.{write_register_of}
@@ -43,7 +43,7 @@ guest_password f b w =
     pick (ltb b.word 255) (password_more f b w) (refused_last (word_in f b.word w) b.purpose)
 
 -- a data word, by the transfer that is open: no sector transfer is, while locked
-abbrev pub guest_word : Face → ℕ → Transfer → Told
+abbrev pub guest_word : Face → ℕ → Transfer → Shows Face
 guest_word f w Idle = no_transfer f
 guest_word f w (Reading r) = no_transfer f
 guest_word f w (Writing r) = no_transfer f
@@ -52,11 +52,11 @@ guest_word f w (WritingBuffer n) = told (write_buffer_word f n w) Done 0
 guest_word f w (TakingPassword b) = told (guest_password f b w) Done 0
 
 -- a register that is read
-abbrev pub guest_seen : Face → Seen → Told
-guest_seen f s = told (with_hot f s.hot) s.answer s.value
+abbrev pub guest_seen : Face → Shows Hot → Shows Face
+guest_seen f s = told (with_hot f s.left) s.answer s.value
 
 -- each action: the device's own definitions, over no memory at all
-unfoldable pub guest_act : Face → Action → Told
+unfoldable pub guest_act : Face → Action → Shows Face
 guest_act f (ReadRegister n) = guest_seen f (read_register f.hot n)
 guest_act f (WriteRegister n v) = write_register_of f [] n v
 guest_act f ReadWord = read_word_of f []
@@ -66,15 +66,15 @@ guest_act f PowerOn = told (powered_on_face f) Done 0
 guest_act f Line = told f Done (line_of f.hot)
 
 -- what a guest gets by an action, and the face that it leaves: "With DEV set, 7 and 8 read 00h .. and commands other than 90h do nothing"
-unfoldable pub guest_step : Face → Action → Told
+unfoldable pub guest_step : Face → Action → Shows Face
 guest_step f a = pick (ignored_of f.hot a) (told f Done 0) (guest_act f a)
 
 -- a guest's answers
 unfoldable pub guest_answers : Face → List Action → List Given
 guest_answers f [] = []
-guest_answers f (a ∷ l) = given (guest_step f a).answer (guest_step f a).value ∷ guest_answers (guest_step f a).face l
+guest_answers f (a ∷ l) = given (guest_step f a).answer (guest_step f a).value ∷ guest_answers (guest_step f a).left l
 
 -- and the face that its session leaves
 unfoldable pub guest_face : Face → List Action → Face
 guest_face f [] = f
-guest_face f (a ∷ l) = guest_face (guest_step f a).face l
+guest_face f (a ∷ l) = guest_face (guest_step f a).left l

@@ -49,6 +49,7 @@ impl Identity {
     }
 }
 
+// As in `face`, a `with_` is one field's update.
 impl Settled {
     pub fn with_translation(self, translation: Translation) -> Self
         ensures { result ≡ with_translation self translation }

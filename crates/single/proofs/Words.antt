@@ -18,7 +18,7 @@ use Rattle.face.specs.declared.Answer.TheVariants.{NoTransfer}
 use Rattle.face.specs.declared.Action.TheVariants.{ReadWord, WriteWord}
 use Rattle.fastpath.specs.Dev.{ignored_of}
 use Rattle.effects.specs.Effects.{effect}
-use Rattle.transfers.specs.declared.Told.{Told}
+use Rattle.face.specs.declared.Shows.{Shows}
 use Rattle.reading.specs.Words.{read_word_of}
 use Rattle.password.specs.Passwords.{password_last, password_word}
 use Rattle.disk.specs.Actions.{told_acted, write_word_as, write_word_of, act_of}
@@ -38,7 +38,7 @@ use Rattle.bulk.specs.Bulk.{counted_reply, counted_lent, reads_admitted, words_a
 read_refused : (d : Device) (m : List ℕ) → ((alone_of d m ReadWord).outcome.number ≡ 0 → ⊥) → alone_of d m ReadWord ≡ shown d m NoTransfer 0
 unfolding alone_of ignored_of act_of read_word_of
 read_refused d m h =
-    ⊎_elim (λ e. absurd (h (ap number_of e))) (λ e. ap (λ (t : Told). step_as (effect (told_acted d.secrets t) m)) e)
+    ⊎_elim (λ e. absurd (h (ap number_of e))) (λ e. ap (λ (t : Shows Face). step_as (effect (told_acted d.secrets t) m)) e)
     (read_word_answer d.face m d.face.hot.transfer)
 
 write_refused : (d : Device) (m : List ℕ) (w : ℕ) → ((alone_of d m (WriteWord w)).outcome.number ≡ 0 → ⊥) → alone_of d m (WriteWord w) ≡ shown d m NoTransfer 0

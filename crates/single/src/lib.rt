@@ -11,15 +11,15 @@ ghost use Rattle.layout.specs.Stored.{hot_stored, device_stored, formed_of};
 ghost use Rattle.layout.specs.Bytes.{hot_bytes};
 ghost use Rattle.lent.specs.Lent.{host_reply, Admitted, lent_of, lent_step, GivesBack};
 
-use face::{Action, Answer, Hot, Seen};
+use face::{Action, Answer, Hot, Shows};
 use layout::State;
 use lent::Reply;
 
 // What the fast path settled: only the hot part goes back.
-fn settle(state: &mut State, seen: Seen) -> Reply
-    ensures { (result ≡ host_reply (number_of seen.answer) (value_of seen.answer seen.value)) × (state.new ≡ sets state.old 0 (hot_bytes seen.hot)) }
+fn settle(state: &mut State, seen: Shows<Hot>) -> Reply
+    ensures { (result ≡ host_reply (number_of seen.answer) (value_of seen.answer seen.value)) × (state.new ≡ sets state.old 0 (hot_bytes seen.left)) }
 {
-    layout::put_hot(state, seen.hot);
+    layout::put_hot(state, seen.left);
     lent::answered(
         seen.answer.number(),
         face::value_of(seen.answer, seen.value) as u32,
@@ -34,7 +34,7 @@ fn read_one(state: &mut State, buffer: &mut [u8; 512], sectors: &[u8]) -> Reply
     let mut out = [0; 2];
     let reply = bulk::read_admitted(state, buffer, sectors, &mut out);
     if reply.answer == 0 {
-        return lent::answered(0, base::pair(out[0], out[1]) as u32);
+        return lent::done(base::pair(out[0], out[1]) as u32);
     }
     reply
 }
@@ -47,7 +47,7 @@ fn write_one(state: &mut State, buffer: &mut [u8; 512], w: u16, sectors: &mut [u
     let bytes = w.to_le_bytes();
     let reply = bulk::write_admitted(state, buffer, sectors, &bytes);
     if reply.answer == 0 {
-        return lent::answered(0, 0);
+        return lent::done(0);
     }
     reply
 }
@@ -56,7 +56,7 @@ fn write_one(state: &mut State, buffer: &mut [u8; 512], w: u16, sectors: &mut [u
 fn hidden() -> Reply
     ensures { result ≡ host_reply 0 0 }
 {
-    lent::answered(0, 0)
+    lent::done(0)
 }
 
 // A Command over hot and settled part, with the buffer where it is lent.
@@ -70,7 +70,7 @@ fn command(state: &mut State, buffer: &mut [u8; 512], code: u8, sectors: &[u8]) 
     }
     let left = commands::command(front, code, buffer, sectors);
     layout::put_front(state, left);
-    lent::answered(0, 0)
+    lent::done(0)
 }
 
 // Device Control, whatever the sectors hold.
@@ -81,7 +81,7 @@ fn control(state: &mut State, buffer: &mut [u8; 512], v: u8) -> Reply
     let front = layout::front_at(state);
     let left = resets::control(front, v, buffer);
     layout::put_front(state, left);
-    lent::answered(0, 0)
+    lent::done(0)
 }
 
 // Power-on and hardware reset, whatever the sectors hold.
@@ -92,7 +92,7 @@ fn power_on(state: &mut State, buffer: &mut [u8; 512]) -> Reply
     let settled = layout::settled_at(state);
     let front = resets::powered_on(settled, buffer);
     layout::put_front(state, front);
-    lent::answered(0, 0)
+    lent::done(0)
 }
 
 // A write to a register that the fast path leaves open.
@@ -137,11 +137,8 @@ fn step(state: &mut State, buffer: &mut [u8; 512], action: Action, sectors: &mut
 pub fn host(state: &mut [u8], buffer: &mut [u8; 512], action: Action, sectors: &mut [u8]) -> Reply
     ensures { GivesBack (lent_step state.old buffer.old sectors.old action) result state.new buffer.new sectors.new }
 {
-    let Some(state) = state.as_mut_array() else {
-        return lent::refused(Answer::OutOfShape);
-    };
     match lent::admission(state, sectors) {
-        Answer::Done => step(state, buffer, action, sectors),
+        Answer::Done => step(state.as_mut_array().unwrap(), buffer, action, sectors),
         answer => lent::refused(answer),
     }
 }
@@ -152,11 +149,8 @@ pub fn rare(state: &mut [u8], buffer: &mut [u8; 512], action: Action, sectors: &
     requires { (h : Hot) → (b : List ℕ) → quick_alone h b action ≡ None }
     ensures { GivesBack (lent_step state.old buffer.old sectors.old action) result state.new buffer.new sectors.new }
 {
-    let Some(state) = state.as_mut_array() else {
-        return lent::refused(Answer::OutOfShape);
-    };
     match lent::admission(state, sectors) {
-        Answer::Done => slow(state, buffer, action, sectors),
+        Answer::Done => slow(state.as_mut_array().unwrap(), buffer, action, sectors),
         answer => lent::refused(answer),
     }
 }

@@ -8,14 +8,14 @@ use Rattle.face.specs.declared.Transfer.TheVariants.{ReadingBuffer, WritingBuffe
 use Rattle.face.specs.declared.Answer.{Answer}
 use Rattle.face.specs.declared.Answer.TheVariants.{Done, NoTransfer}
 use Rattle.face.specs.declared.Face.{Face}
-use Rattle.transfers.specs.declared.Told.{Told}
+use Rattle.face.specs.declared.Shows.{Shows}
 
 -- what an action on the face shows
-abbrev pub told : Face → Answer → ℕ → Told
-told f a v = record { face = f; answer = a; value = v }
+abbrev pub told : Face → Answer → ℕ → Shows Face
+told f a v = record { left = f; answer = a; value = v }
 
 -- answer 4: "data word with no transfer that way"
-abbrev pub no_transfer : Face → Told
+abbrev pub no_transfer : Face → Shows Face
 no_transfer f = told f NoTransfer 0
 
 -- a word of E4h or ECh has been read
@@ -23,7 +23,7 @@ unfoldable pub read_buffer_word : Face → ℕ → Face
 read_buffer_word f n = pick (ltb n 255) (with_hot f (with_transfer f.hot (ReadingBuffer (n + 1)))) (idle_face f)
 
 -- a word of E4h or ECh is read
-abbrev pub buffer_word : Face → ℕ → Told
+abbrev pub buffer_word : Face → ℕ → Shows Face
 buffer_word f n = told (read_buffer_word f n) Done (word_at f.buffer n)
 
 -- "each written word from its arrival on" is in the buffer

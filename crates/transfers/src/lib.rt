@@ -3,30 +3,12 @@
 
 ghost use Rattle.std.specs.Prelude.{◌≡◌, ◌<◌};
 ghost use Rattle.transfers.specs.Sectors.{located, after_of, first_run, next_run, abort_face, finish_face, missed_of};
-ghost use Rattle.transfers.specs.Words.{told, no_transfer, read_buffer_word, buffer_word, word_in, write_buffer_word};
+ghost use Rattle.transfers.specs.Words.{no_transfer, read_buffer_word, buffer_word, word_in, write_buffer_word};
 
 use address::{Address, AddressRegisters};
-use face::{Answer, Face, Hot, Registers, Run, Transfer};
+use face::{Answer, Face, Hot, Registers, Run, Shows, Transfer};
 use geometry::Translation;
 use settled::Settled;
-
-// What an action on the face shows: as in face::Seen, any answer beside any value.
-#[derive(Clone, Copy)]
-pub struct Told {
-    pub face: Face,
-    pub answer: Answer,
-    pub value: u16,
-}
-
-pub fn tells(face: Face, answer: Answer, value: u16) -> Told
-    ensures { result ≡ told face answer value }
-{
-    Told {
-        face,
-        answer,
-        value,
-    }
-}
 
 // The sector that an address names on this disk, by the translation in force.
 pub fn located(settled: Settled, at: AddressRegisters) -> Address
@@ -66,7 +48,7 @@ pub fn next_run(run: Run, translation: Translation) -> Run
     }
 }
 
-// A command aborts.
+// A command aborts. It and `finish` are one call each, by which they differ.
 pub fn abort(face: Face) -> Face
     ensures { result ≡ abort_face face }
 {
@@ -89,10 +71,10 @@ pub fn missed(hot: Hot, run: Run) -> Hot
 }
 
 // A data word with no transfer that way.
-pub fn no_transfer(face: Face) -> Told
+pub fn no_transfer(face: Face) -> Shows<Face>
     ensures { result ≡ no_transfer face }
 {
-    tells(face, Answer::NoTransfer, 0)
+    face::tells(face, Answer::NoTransfer, 0)
 }
 
 // A data word of READ BUFFER or IDENTIFY has been read.
@@ -108,11 +90,11 @@ fn read_buffer_word(face: Face, word: u8) -> Face
 }
 
 // A data word of READ BUFFER or IDENTIFY is read.
-pub fn buffer_word(face: Face, n: u8) -> Told
+pub fn buffer_word(face: Face, n: u8) -> Shows<Face>
     ensures { result ≡ buffer_word face n }
 {
     let value = block::word_at(&face.buffer, n);
-    tells(read_buffer_word(face, n), Answer::Done, value)
+    face::tells(read_buffer_word(face, n), Answer::Done, value)
 }
 
 // A word arrives in the buffer.

@@ -104,7 +104,7 @@ next_same h s b m t r =
 -- the last word of a block, wherever in it the hot part stood
 word_last : (h : Hot) (s : Settled) (b : List ℕ) (x : Secrets) (m : List ℕ) (t : Transfer) → hands_out t ≡ true
     → step_as (effect (told_acted x (read_word_as (face_with (with_transfer h (placed_at t 255)) s b) m (placed_at t 255))) m)
-    ≡ word_done (device_of (read_word_as (face_with h s b) m (placed_at t 255)).face x) m (word_at b 255)
+    ≡ word_done (device_of (read_word_as (face_with h s b) m (placed_at t 255)).left x) m (word_at b 255)
 unfolding read_run_of read_buffer_word
 word_last h s b x m Idle o = absurd (false≢true o)
 word_last h s b x m (Reading r) o = ap (λ (f : Face). word_done (device_of f x) m (word_at b 255)) (next_same h s b m (placed_at (Reading r) 255) (run_placed_at r 255))
@@ -167,7 +167,7 @@ read_up_to_law h s b x m o k n p e l g = either_way (ltb (p + k) 256) within who
     within q =
         let i = ltb-true (p + k) 256 q in
         words_within h s b x m o k n p e (omega arith)
-        ∙ ap (λ (y : Bool). hands_behind (words_from b p k) (read_words_of alone_of n (device_of (pick y (face_at (face_with h s b) (p + k)) (read_word_as (face_with h s b) m (placed_at h.transfer 255)).face) x) m)) (sym q)
+        ∙ ap (λ (y : Bool). hands_behind (words_from b p k) (read_words_of alone_of n (device_of (pick y (face_at (face_with h s b) (p + k)) (read_word_as (face_with h s b) m (placed_at h.transfer 255)).left) x) m)) (sym q)
 
     whole : ltb (p + k) 256 ≡ false
         → read_words_of alone_of (k + n) (device_with h s b x) m

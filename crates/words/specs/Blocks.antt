@@ -17,7 +17,7 @@ face_at f place = with_hot f (hot_at f.hot place f.hot.signals.raised)
 
 -- the words of the block up to that place have been read: behind its last it is what that word leaves
 unfoldable pub read_up_to : Face → List ℕ → ℕ → Face
-read_up_to f m place = pick (ltb place 256) (face_at f place) (read_word_as f m (placed_at f.hot.transfer 255)).face
+read_up_to f m place = pick (ltb place 256) (face_at f place) (read_word_as f m (placed_at f.hot.transfer 255)).left
 
 -- where the words end that are taken in here: a password block's last is judged, which takes more of the device
 abbrev pub takes_to : Transfer → ℕ

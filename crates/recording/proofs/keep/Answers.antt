@@ -1,10 +1,7 @@
--- After each turn one byte more stands at the front, read before it is written over.
-use Rattle.recording.proofs.Keeping.{keeping_done, keeping_more}
-use native.Mathlib.Omega.{arith}
+-- What moves to the front is put there as it stood.
+use Rattle.recording.proofs.Keeping.{front_moved}
+use mathlib.Core.Path.{◌∙◌}
 use Rattle.recording.proofs.keep.Goals as goal
 
-pub loop-moved-preserved : goal.loop-moved-preserved
-loop-moved-preserved c = keeping_more c.loop-moved.invariant (omega arith)
-
 pub returns : goal.returns
-returns c = keeping_done c.loop-moved.invariant (omega arith)
+returns c = c.copy_within.ensures.after ∙ front_moved c.args.window.now c.args.from c.args.to c.requires.0 c.requires.1
