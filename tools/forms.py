@@ -68,9 +68,13 @@ def twins(path, text):
         yield from names[1:] if 'thinnarom' not in path else ()
 
 
-def type_twins(path, text):
-    """2. Structs of three fields that differ in one field's type or name."""
-    return [name for name, body in items('struct', text) if len(re.findall(r'^    pub \w+: .*,$', body, re.M)) == 3 and re.search(r'answer: Answer', body)]
+def type_twins(path, text, known=[]):  # known: the structs of the files before
+    """2. Structs, of any two crates, that differ in one field of three or more: all but the first."""
+    for name, body in items('struct', text):
+        fields = set(re.findall(r'^    (?:pub )?(\w+): ([^,]+),$', body, re.M))
+        if len(fields) > 2 and any(len(fields) == len(other) and len(fields - other) < 2 for other in known):
+            yield name
+        known.append(fields)
 
 
 def index_loops(path, text):
