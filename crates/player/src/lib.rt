@@ -90,8 +90,8 @@ impl Course {
     }
 }
 
-// Ready is a clause, as Memory is: device and memory are held apart here (docs/DECISIONS.md, 65).
-// Replays whole records from where it came on, until the reply is full or the bytes are used up.
+// Replays whole records from where it came on, until the reply is full or the bytes are used up. Device and memory are held apart here,
+// so that Ready, which ties them, is a clause as Memory is (docs/DECISIONS.md, 65).
 pub fn play(from: Came, sectors: &mut [u8], rec: &[u8], last: bool, out: &mut [u8]) -> Came
     requires { Ready from.device sectors.old × ((from.taken ≤ length rec.now) × (from.made ≤ length out.old)) }
     ensures { Gives (part_of last from.device sectors.old rec.now from.taken out.old from.made) result sectors.new out.old out.new }
