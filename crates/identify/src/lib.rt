@@ -85,16 +85,16 @@ fn number_word(settled: Settled, n: u16) -> u16
     }
 }
 
-// Word n.
+// Word n. By reference, so that no turn of the loop copies the texts (docs/SPEED.md).
 #[tactic(auto, unfolding(crate::specs::Words::identify_word, base::specs::Choice::within))]
-fn identify_word(settled: Settled, n: u16) -> u16
-    ensures { result ≡ identify_word settled n }
+fn identify_word(settled: &Settled, n: u16) -> u16
+    ensures { result ≡ identify_word settled.now n }
 {
     match n {
         10..=19 => text_word(&settled.identity.serial, n - 10),
         23..=26 => text_word(&settled.identity.firmware, n - 23),
         27..=46 => text_word(&settled.identity.model, n - 27),
-        _ => number_word(settled, n),
+        _ => number_word(*settled, n),
     }
 }
 
@@ -104,7 +104,7 @@ pub fn identify(settled: Settled) -> [u8; 512]
 {
     let mut block = [0u8; 512];
     for n in 0..256 {
-        block::put_word(&mut block, n as u8, identify_word(settled, n));
+        block::put_word(&mut block, n as u8, identify_word(&settled, n));
     }
     block
 }

@@ -69,26 +69,33 @@ pub fn swift(from: Stand, buffer: &mut [u8; 512], rec: &[u8], out: &mut [u8]) ->
     requires { Stands rec.now out.old from }
     ensures { way_at result buffer.new out.new ≡ swift_of from.left rec.now (way_at from buffer.old out.old) }
 {
-    let mut here = glide(from, buffer, rec, out);
-    // As in `glide`, a record says itself how many bytes it takes.
-    while 0 < here.left {
-        let Ok(record) = records::next(&rec[here.at..]) else {
+    // Held apart, and a record says itself how many bytes it takes, as in `glide`.
+    let Stand {
+        mut hot,
+        mut at,
+        mut put,
+        mut left,
+    } = glide(from, buffer, rec, out);
+    while 0 < left {
+        let Ok(record) = records::next(&rec[at..]) else {
             break;
         };
-        let Some(seen) = fastpath::quick(here.hot, buffer, record.action) else {
+        let Some(seen) = fastpath::quick(hot, buffer, record.action) else {
             break;
         };
-        answer(out, here.put, seen);
-        here = standing(
-            seen.left,
-            here.at + record.size,
-            here.put + 5,
-            here.left - 1,
-        );
+        answer(out, put, seen);
+        hot = seen.left;
+        at += record.size;
+        put += 5;
+        left -= 1;
         // With no transfer open a glance shows little, and taking the hot part apart for it does not pay.
-        if !here.hot.idle() {
-            here = glide(here, buffer, rec, out);
+        if !hot.idle() {
+            let far = glide(standing(hot, at, put, left), buffer, rec, out);
+            hot = far.hot;
+            at = far.at;
+            put = far.put;
+            left = far.left;
         }
     }
-    here
+    standing(hot, at, put, left)
 }

@@ -6,36 +6,36 @@ use Rattle.records.proofs.Rest.{rest_starts, next_place}
 use mathlib.Core.Path.{refl, sym, ◌∙◌}
 use native.Mathlib.Omega.{arith}
 use Rattle.loops.proofs.swift.Goals as goal
+use Rattle.loops.proofs.swift.Goals.{else-loop-left-test, then-loop-left-test+in_default, then-loop-left-test+in-Ok+in_default-quick}
 
-pub overflow_add-here : goal.overflow_add-here
-overflow_add-here c = omega (arith, next_place _ _ _ _ c.loop-here.invariant.stands.below c.next.ensures c.in-Ok.is)
+pub overflow_add-at : goal.overflow_add-at
+overflow_add-at c = omega (arith, next_place _ _ _ _ c.loop-left.invariant.stands.below c.next.ensures c.in-Ok.is)
 
-pub glide-here-requires-then-not-idle : goal.glide-here-requires-then-not-idle
-glide-here-requires-then-not-idle c =
-    (onward_settled c.loop-here.invariant.stands c.loop-here-test.true c.next.ensures c.in-Ok.is c.quick.ensures.0 c.in-Some.is c.quick.ensures.1 c.answer.ensures c.standing-here.ensures).stands
+pub glide-far-requires : goal.glide-far-requires
+glide-far-requires c =
+    (onward_settled c.loop-left.invariant.stands c.loop-left-test.true c.next.ensures c.in-Ok.is c.quick.ensures.0 c.in-Some.is c.quick.ensures.1 c.answer.ensures c.standing.ensures).stands
 
-pub loop-here-preserved-then-not-idle : goal.loop-here-preserved-then-not-idle
-loop-here-preserved-then-not-idle c =
-    onward_then c.loop-here.invariant
-    (onward_then (onward_settled c.loop-here.invariant.stands c.loop-here-test.true c.next.ensures c.in-Ok.is c.quick.ensures.0 c.in-Some.is c.quick.ensures.1 c.answer.ensures c.standing-here.ensures) c.glide-here-then-not-idle.ensures)
+pub loop-left-preserved-then-not-idle : goal.loop-left-preserved-then-not-idle
+loop-left-preserved-then-not-idle c =
+    onward_then c.loop-left.invariant
+    (onward_then (onward_settled c.loop-left.invariant.stands c.loop-left-test.true c.next.ensures c.in-Ok.is c.quick.ensures.0 c.in-Some.is c.quick.ensures.1 c.answer.ensures c.standing.ensures) c.glide-far.ensures)
 
-pub loop-here-preserved : goal.loop-here-preserved
-loop-here-preserved c =
-    onward_then c.loop-here.invariant
-    (onward_settled c.loop-here.invariant.stands c.loop-here-test.true c.next.ensures c.in-Ok.is c.quick.ensures.0 c.in-Some.is c.quick.ensures.1 c.answer.ensures c.standing-here.ensures)
+pub loop-left-preserved : goal.loop-left-preserved
+loop-left-preserved c =
+    onward_then c.loop-left.invariant
+    (onward_settled c.loop-left.invariant.stands c.loop-left-test.true c.next.ensures c.in-Ok.is c.quick.ensures.0 c.in-Some.is c.quick.ensures.1 c.answer.ensures refl)
 
-pub returns-after-loop-here : goal.returns-after-loop-here
-returns-after-loop-here c = onward_ends (onward_then c.glide-here.ensures c.loop-here.invariant) (swift_full _ _ _ c.loop-here-test.false)
-
-pub returns-in_default : goal.returns-in_default
+pub returns : goal.returns
 unfolding swift_as
-returns-in_default c =
-    onward_ends (onward_then c.glide-here.ensures c.loop-here.invariant)
-    (swift_rests _ _ _ _ (rest_starts c.args.rec.now c.loop-here.here.at _ _ c.next.ensures c.in_default.is) (λ rest. refl))
-
-pub returns-in_default-quick : goal.returns-in_default-quick
-returns-in_default-quick c =
-    let slow = sym c.quick.ensures.0 ∙ c.in_default-quick.is in
-    way_as (c.quick.ensures.1 ∙ quick_slow _ _ _ slow)
-    (onward_ends (onward_then c.glide-here.ensures c.loop-here.invariant)
-    (swift_rests _ _ _ _ (rest_starts c.args.rec.now c.loop-here.here.at _ _ c.next.ensures c.in-Ok.is) (rests_slow _ _ slow)))
+returns c =
+    let along = onward_then c.glide-at.ensures c.loop-left.invariant in
+    rw c.standing-2.ensures
+    (elim c.loop-left-test.branch [
+      | else-loop-left-test w ↦ way_as w.buffer-is (onward_ends along (swift_full _ _ _ w.loop-left-test.false))
+      | then-loop-left-test+in_default w ↦ way_as w.buffer-is
+          (onward_ends along (swift_rests _ _ _ _ (rest_starts c.args.rec.now c.loop-left.at _ _ w.next.ensures w.in_default.is) (λ rest. refl)))
+      | then-loop-left-test+in-Ok+in_default-quick w ↦
+          let slow = sym w.quick.ensures.0 ∙ w.in_default-quick.is in
+          way_as (w.buffer-is ∙ w.quick.ensures.1 ∙ quick_slow _ _ _ slow)
+          (onward_ends along (swift_rests _ _ _ _ (rest_starts c.args.rec.now c.loop-left.at _ _ w.next.ensures w.in-Ok.is) (rests_slow _ _ slow)))
+    ])
