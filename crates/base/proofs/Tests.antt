@@ -38,7 +38,6 @@ told_false b r e h = sym e ∙ h
 -- for `search`: choices by the code's own tests and by bools that calls gave
 pub ruleset picks = (picked_true, picked_false, told_true, told_false, lt-ltb, le-ltb, le-leb, lt-leb, eq-eqb, ne_eqb)
 
--- what follows where two different constructors would be equal: `cc` shows 0 ≡ 1 from that
 -- a choice against false is true exactly where both tests are
 pub both_true : (a b : Bool) → pick a b false ≡ true → (a ≡ true) × (b ≡ true)
 both_true true b e = (refl, e)

@@ -91,6 +91,10 @@ admitted b x m e =
     (λ s. absurd (false≢true (sym (ap is_refusal (rw (f, s) at e))))))
     (λ f. absurd (false≢true (sym (ap is_refusal (rw f at e)))))
 
+-- the same, of the answer's number
+pub zero_admits : (b x m : List ℕ) (a : Answer) (n : ℕ) → a ≡ admission_of b m → n ≡ number_of a → n ≡ 0 → Admitted b x m
+zero_admits b x m a n ea en z = admitted b x m (sym ea ∙ number_done a (sym en ∙ z))
+
 -- and there are as many of them as a state has
 pub admitted_long : (b m : List ℕ) → Done ≡ admission_of b m → length b ≡ 163
 admitted_long b m e = formed_long b (admitted b [] m (sym e)).formed

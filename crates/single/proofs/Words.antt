@@ -126,9 +126,13 @@ unfolding write_words_of
 write_one b x m bytes w r b' x' m' e k = subst (λ (ws : List ℕ). GivesBack (writes_admitted b x m ws) r b' x' m') e k
 
 -- its bytes
-pub word_bytes : (w : ℕ) (bytes : List ℕ) → w < 65536 → bytes ≡ (w % 256) ∷ (w / 256 % 256) ∷ [] → words_in bytes ≡ w ∷ []
+pub word_bytes : (w : ℕ) → words_in ((w % 256) ∷ (w / 256) ∷ []) ≡ w ∷ []
 unfolding words_in
-word_bytes w bytes h e = let k : w % 256 + 256 * (w / 256 % 256) ≡ w = omega arith in rw e (ap (λ (n : ℕ). n ∷ []) k)
+word_bytes w = let e : w % 256 + 256 * (w / 256) ≡ w = omega arith in ap (λ (n : ℕ). n ∷ []) e
+
+-- the same, as the code makes them
+pub word_le_bytes : (w : ℕ) (bytes : List ℕ) → w < 65536 → bytes ≡ (w % 256) ∷ (w / 256 % 256) ∷ [] → words_in bytes ≡ w ∷ []
+word_le_bytes w bytes h e = let k : w / 256 % 256 ≡ w / 256 = omega arith in rw (e, k) (word_bytes w)
 
 -- it passes
 pub write_done : (b x m bytes : List ℕ) (w : ℕ) (r r' : Reply) (b' x' m' : List ℕ) → words_in bytes ≡ w ∷ [] → GivesBack (writes_admitted b x m (words_in bytes)) r b' x' m'
